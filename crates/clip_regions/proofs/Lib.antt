@@ -1,0 +1,4 @@
+pub mod Numbers
+pub mod Quotients
+pub mod Cells
+pub mod Sizes

@@ -1,0 +1,2 @@
+pub mod FloorDivision
+pub mod Regions
