@@ -1,0 +1,5 @@
+use Rattle.terrain_model.proofs.Sides as lemmas
+use Rattle.terrain_model.proofs.laws.side_fits.Goals as goal
+
+pub returns : goal.returns
+returns c = lemmas.side_fits

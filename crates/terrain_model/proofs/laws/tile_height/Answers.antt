@@ -1,0 +1,5 @@
+use Rattle.terrain_model.proofs.Heights as lemmas
+use Rattle.terrain_model.proofs.laws.tile_height.Goals as goal
+
+pub returns : goal.returns
+returns c = lemmas.tile_height

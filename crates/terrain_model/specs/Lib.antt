@@ -1,0 +1,4 @@
+pub mod Terrain
+pub mod Tile
+pub mod Name
+pub mod Laws
