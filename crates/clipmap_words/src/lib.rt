@@ -1,0 +1,15 @@
+//! The words of a command line: which command they are, with its numbers, names and inputs.
+//!
+//! Numbers have one spelling each (`0`, or a digit 1 to 9 and further digits, with `-` before a negative one), names
+//! have 1 to 200 bytes and no zero byte, and inputs are one store or 1 to 64 HGT tiles. Anything else is no command.
+#![tactic(auto)]
+
+mod command;
+mod names;
+mod numbers;
+#[cfg(test)]
+mod tests;
+
+pub use command::{Command, read_words};
+pub use names::{INPUTS_LIMIT, NAME_LIMIT, is_store_name};
+pub use numbers::VIEWER_LIMIT;

@@ -1,0 +1,2 @@
+pub mod TileView
+pub mod Fault

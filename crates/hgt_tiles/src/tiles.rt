@@ -1,0 +1,169 @@
+//! The bytes of HGT tiles.
+
+ghost use Rattle.std.specs.Prelude.{◌≡◌, ℕ, ◌+◌, ◌*◌, ◌/◌, ◌<◌, ◌≤◌, length, pos, map, count_by, FitsSigned, All, IfSome, IfOk, IfErr, Some, None};
+ghost use Rattle.std.specs.Int.{w16};
+ghost use Rattle.std.specs.List.{range_with_len};
+ghost use Rattle.terrain_model.specs.Tile.{raw_sample, side_of_length, is_void};
+ghost use Rattle.hgt_tiles.specs.TileView.{tile_of_bytes, IsTile};
+ghost use Rattle.hgt_tiles.specs.Fault.{HasCause};
+
+use byteorder::{BigEndian, ByteOrder};
+use std::alloc::{AllocError, Global};
+use std::marker::Model;
+use terrain_model::Corner;
+use thiserror::Error;
+
+/// The sample that marks a place without a height.
+const VOID: i16 = -32768;
+
+/// Why a tile can't be read.
+#[derive(Clone, Copy, Debug, PartialEq, Eq, Error)]
+pub enum TileFault {
+    /// The length in bytes isn't that of a square of 3 to 3601 samples a side, two bytes a sample.
+    #[error("{length} bytes are no HGT tile")]
+    BadLength {
+        /// How many bytes there are.
+        length: u64,
+    },
+    /// There is no memory for the heights.
+    #[error("out of memory")]
+    NoMemory,
+}
+
+/// A tile of heights in metres, a square with its south-west corner at whole degrees.
+#[derive(Drop)]
+pub struct HgtTile {
+    corner: Corner,
+    side: u32,
+    voids: u64,
+    heights: Vec<i16>,
+}
+
+impl Model for HgtTile {
+    ghost use Rattle.hgt_tiles.specs.TileView.{TileView, IsTile};
+
+    ghost Value = { TileView };
+
+    ghost view = { λ t. record { corner = t.corner; terrain = record { width = t.side; height = t.side; table = t.heights.items }; voids = t.voids } };
+
+    ghost invariant = { λ t. IsTile (record { width = t.side; height = t.side; table = t.heights.items }) };
+}
+
+impl HgtTile {
+    ghost use Rattle.terrain_model.specs.Terrain.{height_at};
+    ghost use Rattle.hgt_tiles.specs.TileView.{IsTile};
+
+    /// The south-west corner.
+    pub fn corner(&self) -> Corner
+        ensures { result ≡ self.now.corner }
+    {
+        self.corner
+    }
+
+    /// How many samples a row or a column has, 3 to 3601.
+    pub fn side(&self) -> u32
+        ensures value { result ≡ self.now.terrain.width }
+        ensures tile { IsTile self.now.terrain }
+    {
+        self.side
+    }
+
+    /// How many samples were voids in the file.
+    pub fn voids(&self) -> u64
+        ensures { result ≡ self.now.voids }
+    {
+        self.voids
+    }
+
+    /// The height in metres at column `x` from the west and row `y` from the north.
+    #[tactic(auto, unfolding(terrain_model::specs::Terrain::height_at))]
+    pub fn height(&self, x: u32, y: u32) -> i16
+        requires column { x < self.now.terrain.width }
+        requires row { y < self.now.terrain.height }
+        ensures { result ≡ height_at self.now.terrain (pos x) (pos y) }
+    {
+        self.heights[y as usize * self.side as usize + x as usize]
+    }
+}
+
+/// The samples of a tile, and how many of them are voids.
+#[derive(Drop)]
+struct Samples {
+    heights: Vec<i16>,
+    voids: u64,
+}
+
+/// Reads a tile from the bytes of an HGT file, with its south-west corner at `corner`.
+///
+/// Voids, the samples -32768, are kept as they are and counted. A length that isn't 2 * N * N bytes
+/// for a side N of 3 to 3601 is a `BadLength`.
+#[tactic(auto, unfolding(crate::specs::TileView::tile_of_bytes, crate::specs::TileView::tile_at, terrain_model::specs::Tile::tile_terrain, terrain_model::specs::Tile::void_count))]
+pub fn read_tile(alloc: Global, corner: Corner, bytes: &[u8]) -> Result<HgtTile, TileFault>
+    ensures tile { IfOk result (λ tile. tile_of_bytes corner bytes.now ≡ Some tile) }
+    ensures square { IfOk result (λ tile. IsTile tile.terrain) }
+    ensures bad_length { side_of_length (length bytes.now) ≡ None → result ≡ Err (TileFault.BadLength (length bytes.now)) }
+    ensures fault { IfErr result (HasCause bytes.now) }
+{
+    let length = bytes.len() as u64;
+    let Some(side) = side_of(length) else {
+        return Err(TileFault::BadLength { length });
+    };
+    match read_samples(alloc, bytes, side) {
+        Ok(samples) => Ok(HgtTile {
+            corner,
+            side,
+            voids: samples.voids,
+            heights: samples.heights,
+        }),
+        Err(_) => Err(TileFault::NoMemory),
+    }
+}
+
+/// The side of a tile of this many bytes, if there is one.
+#[tactic(auto, unfolding(terrain_model::specs::Tile::side_of_length, terrain_model::specs::Tile::tile_sides))]
+fn side_of(length: u64) -> Option<u32>
+    ensures value { result ≡ side_of_length length }
+    ensures low { IfSome result (λ side. 3 ≤ side) }
+    ensures high { IfSome result (λ side. side ≤ 3601) }
+    ensures whole { IfSome result (λ side. 2 * (side * side) ≡ length) }
+{
+    (3..3602).find(|side: &u32| 2 * u64::from(*side) * u64::from(*side) == length)
+}
+
+/// Reads `side * side` samples, and counts the voids among them.
+fn read_samples(alloc: Global, bytes: &[u8], side: u32) -> Result<Samples, AllocError>
+    requires high { side ≤ 3601 }
+    requires whole { length bytes.now ≡ 2 * (side * side) }
+    ensures heights { IfOk result (λ s. s.heights.items ≡ map (raw_sample bytes.now) (range_with_len 0 (side * side))) }
+    ensures voids { IfOk result (λ s. s.voids ≡ count_by is_void s.heights.items) }
+    ensures short { IfOk result (λ s. All (FitsSigned w16) s.heights.items) }
+{
+    let count = side as usize * side as usize;
+    let mut heights = Vec::with_capacity(alloc, count)?;
+    let mut voids = 0u64;
+    for n in 0..count {
+        let sample = sample_at(bytes, n);
+        heights.push(sample)?;
+        if is_void(sample) {
+            voids += 1;
+        }
+    }
+    Ok(Samples { heights, voids })
+}
+
+/// Sample number `n` of a tile, two bytes, the high byte first.
+#[tactic(auto, unfolding(terrain_model::specs::Tile::raw_sample, terrain_model::specs::Tile::signed_pair))]
+fn sample_at(bytes: &[u8], n: usize) -> i16
+    requires { 2 * n + 1 < length bytes.now }
+    ensures { result ≡ raw_sample bytes.now n }
+{
+    BigEndian::read_i16(&bytes[2 * n..])
+}
+
+/// Is `sample` a void?
+#[tactic(auto, unfolding(terrain_model::specs::Tile::is_void))]
+fn is_void(sample: i16) -> bool
+    ensures { result ≡ is_void sample }
+{
+    sample == VOID
+}
