@@ -1,0 +1,7 @@
+pub mod Cells
+pub mod Quotients
+pub mod WindowLaws
+pub mod ActiveLaws
+pub mod RefusalLaws
+pub mod CoverLaws
+pub mod PieceLaws

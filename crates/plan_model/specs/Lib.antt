@@ -1,0 +1,11 @@
+pub mod Window
+pub mod Blocks
+pub mod Strips
+pub mod Actives
+pub mod States
+pub mod Tiles
+pub mod Claims
+pub mod Steps
+pub mod Histories
+pub mod Rounds
+pub mod Laws
