@@ -1,0 +1,5 @@
+pub mod Ranges
+pub mod Places
+pub mod Heights
+pub mod Single
+pub mod Counts

@@ -1,0 +1,10 @@
+pub mod Height
+pub mod Vertices
+pub mod Parts
+pub mod Mesh
+pub mod Conditions
+pub mod Text
+pub mod Seen
+pub mod Watertight
+pub mod OneLevel
+pub mod Laws

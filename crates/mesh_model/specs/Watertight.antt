@@ -1,0 +1,108 @@
+-- What it means that the mesh of some active regions has no gap: heights agree where levels meet, stitches are flat, triangles share their edges, and squares cover each place once.
+use Rattle.std.specs.Prelude.{◌≡◌, ℕ, ◌+◌, ◌-◌, ◌^◌, ◌<◌, Bool, not, ◌&&◌, ◌||◌, ◌==◌, IsTrue, ℤ, pos, ◌+ℤ◌, ◌*ℤ◌, int_le, int_lt, List, [], ◌∷◌, length, filter, count_by, flat_map, All, slice_index, slice_index_or}
+use Rattle.std.specs.Bool.{MatchBool}
+use Rattle.std.specs.Ordering.{int_eq}
+use Rattle.clip_regions.specs.declared.region.Region.{Region}
+use Rattle.clip_regions.specs.Regions.{contains, empty_region, cells}
+use Rattle.terrain_model.specs.Terrain.{Terrain}
+use Rattle.mesh_model.specs.declared.shapes.Vertex.{Vertex}
+use Rattle.mesh_model.specs.Height.{border_distance, active_of, vertex_height}
+use Rattle.mesh_model.specs.Vertices.{hole, mesh_vertices}
+use Rattle.mesh_model.specs.Parts.{squares_between, all_stitch_parts}
+use Rattle.mesh_model.specs.Mesh.{mesh}
+
+-- the cell lies on the border of the region
+unfoldable pub is_on_border : Region → ℤ → ℤ → Bool
+is_on_border r i j = contains r i j && int_eq (border_distance r i j) (pos 0)
+
+-- where a cell of a level stands on the border of the finer active region, both levels give one height
+abbrev pub HeightsAgree : Terrain → ℕ → List Region → Type 0
+HeightsAgree terrain k actives =
+    (level : ℕ) (i j : ℤ) → level + 1 < length actives →
+    IsTrue (is_on_border (active_of actives level) (pos 2 *ℤ i) (pos 2 *ℤ j)) →
+    IsTrue (contains (active_of actives (level + 1)) i j) →
+    vertex_height terrain k actives level (pos 2 *ℤ i) (pos 2 *ℤ j) ≡ vertex_height terrain k actives (level + 1) i j
+
+-- the vertex at a place
+unfoldable pub vertex_of_place : List Vertex → ℕ → Vertex
+vertex_of_place vertices place = slice_index_or vertices place (record { x = pos 0; z = pos 0; height = pos 0 })
+
+-- m stands in the middle between p and q, in position and in height
+pub record IsMiddle (p m q : Vertex) : Type 0 where
+  pub x : pos 2 *ℤ m.x ≡ p.x +ℤ q.x
+  pub z : pos 2 *ℤ m.z ≡ p.z +ℤ q.z
+  pub height : pos 2 *ℤ m.height ≡ p.height +ℤ q.height
+
+-- the second vertex of each stitch stands in the middle between the first and the third
+abbrev pub StitchesAreFlat : Terrain → ℕ → List Region → Type 0
+StitchesAreFlat terrain k actives =
+    let vertices = mesh_vertices terrain k actives in
+    let at = vertex_of_place vertices in
+    All (λ stitch. IsMiddle (at (slice_index stitch 0)) (at (slice_index stitch 1)) (at (slice_index stitch 2)))
+    (flat_map (λ part. part.triangles) (all_stitch_parts vertices actives))
+
+-- does the triangle go from a to b along one of its edges?
+unfoldable pub has_edge : ℕ → ℕ → List ℕ → Bool
+has_edge a b triangle =
+    let p = slice_index triangle 0 in
+    let q = slice_index triangle 1 in
+    let r = slice_index triangle 2 in
+    ((p == a && q == b) || (q == a && r == b)) || (r == a && p == b)
+
+-- how many triangles go from a to b
+unfoldable pub edge_count : List (List ℕ) → ℕ → ℕ → ℕ
+edge_count triangles a b = count_by (has_edge a b) triangles
+
+-- two vertices lie on one and the same side of a region whose cells are this far apart
+unfoldable pub is_on_side : Region → ℤ → Vertex → Vertex → Bool
+is_on_side r spacing p q =
+    let both = λ (a b side : ℤ). int_eq a (side *ℤ spacing) && int_eq b (side *ℤ spacing) in
+    (both p.x q.x r.x0 || both p.x q.x r.x1) || (both p.z q.z r.y0 || both p.z q.z r.y1)
+
+-- an edge on the border of the coarsest active region is in one triangle, and any other edge in two, once in each direction
+abbrev pub EdgesClose : Terrain → ℕ → List Region → Type 0
+EdgesClose terrain k actives =
+    let lists = mesh terrain k actives in
+    let coarsest = length actives - 1 in
+    let side = is_on_side (active_of actives coarsest) (pos (2 ^ coarsest)) in
+    (a b : ℕ) → 0 < edge_count lists.triangles a b →
+    MatchBool (side (vertex_of_place lists.vertices a) (vertex_of_place lists.vertices b))
+    (edge_count lists.triangles a b + edge_count lists.triangles b a ≡ 1)
+    ((edge_count lists.triangles a b ≡ 1) × (edge_count lists.triangles b a ≡ 1))
+
+-- the north-west corners of the squares of an active region outside the hole
+unfoldable pub ring_squares : Region → Region → List (ℤ × ℤ)
+ring_squares finer active =
+    let gap = hole finer in
+    filter (λ square. not (contains (squares_between gap.x0 gap.x1 gap.y0 gap.y1) square.0 square.1))
+    (cells (squares_between active.x0 active.x1 active.y0 active.y1))
+
+-- the unit square at column x and row z lies in this square of a level
+unfoldable pub lies_in : ℕ → ℤ → ℤ → ℤ × ℤ → Bool
+lies_in level x z square =
+    let spacing = pos (2 ^ level) in
+    let between = λ (i a : ℤ). int_le (i *ℤ spacing) a && int_lt a ((i +ℤ pos 1) *ℤ spacing) in
+    between square.0 x && between square.1 z
+
+-- in how many ring squares of the regions from this level on, whose next finer region is given, the unit square lies
+abbrev pub cover_count : ℕ → Region → List Region → ℤ → ℤ → ℕ
+cover_count level finer [] x z = 0
+cover_count level finer (active ∷ coarser) x z =
+    count_by (lies_in level x z) (ring_squares finer active) + cover_count (level + 1) active coarser x z
+
+-- each unit square of the coarsest active region lies in one ring square of one level
+abbrev pub SquaresCover : List Region → Type 0
+SquaresCover actives =
+    let coarsest = length actives - 1 in
+    let r = active_of actives coarsest in
+    let spacing = pos (2 ^ coarsest) in
+    (x z : ℤ) → IsTrue (int_le (r.x0 *ℤ spacing) x && int_lt x (r.x1 *ℤ spacing)) →
+    IsTrue (int_le (r.y0 *ℤ spacing) z && int_lt z (r.y1 *ℤ spacing)) →
+    cover_count 0 empty_region actives x z ≡ 1
+
+-- the mesh of these active regions is watertight
+pub record IsWatertight (terrain : Terrain) (k : ℕ) (actives : List Region) : Type 0 where
+  pub heights : HeightsAgree terrain k actives
+  pub stitches : StitchesAreFlat terrain k actives
+  pub edges : EdgesClose terrain k actives
+  pub squares : SquaresCover actives

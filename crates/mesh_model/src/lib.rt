@@ -1,0 +1,11 @@
+//! What the mesh of a frame is: its vertices and their heights, its triangles, its parts and its text.
+//!
+//! The definitions stand in `specs/` and are cited by the contracts of every crate above. This crate
+//! has the plain types that they speak of, and laws over the definitions alone.
+#![tactic(auto)]
+
+mod laws;
+mod shapes;
+
+pub use laws::{box_holds, one_level_counts, one_level_mesh};
+pub use shapes::{Bounds, Part, PartKind, Vertex};

@@ -1,0 +1,18 @@
+//! Meshes, and their text as Wavefront OBJ files.
+//!
+//! A [`Mesh`] keeps vertices, triangles and parts. [`frame_text`] prints one as the text of a frame: a
+//! few comment lines at its head, then a `v` line for each vertex and an `f` line for each triangle.
+#![tactic(auto)]
+
+mod lines;
+mod memory;
+mod mesh;
+mod text;
+
+pub use memory::NoMemory;
+pub use mesh::Mesh;
+pub use mesh_model::{Bounds, Part, PartKind, Vertex};
+pub use text::{Header, frame_text};
+
+#[cfg(test)]
+mod tests;

@@ -1,0 +1,13 @@
+//! The one refusal of this crate.
+
+use std::alloc::AllocError;
+
+/// There was no memory.
+#[derive(Debug, Clone, Copy, PartialEq, Eq)]
+pub struct NoMemory;
+
+impl From<AllocError> for NoMemory {
+    fn from(_: AllocError) -> NoMemory {
+        NoMemory
+    }
+}

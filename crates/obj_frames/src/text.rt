@@ -1,0 +1,76 @@
+//! The text of a frame.
+
+ghost use Rattle.std.specs.Prelude.{◌≡◌, ◌++◌, [], ◌∷◌, IfOk, OnOk, flat_map};
+ghost use Rattle.mesh_model.specs.Text.{head_text, vertex_line, triangle_line, frame_text as text_of_frame};
+
+use crate::lines::{append_frame, append_level, append_triangle, append_vertex, append_viewer};
+use crate::memory::NoMemory;
+use crate::mesh::Mesh;
+use clip_regions::Region;
+use itoa::Buffer;
+use mesh_model::Vertex;
+use std::alloc::Global;
+
+/// What the head of a frame's text says.
+#[derive(Debug, Clone, Copy, PartialEq, Eq)]
+pub struct Header {
+    /// The frame's number, counted from 0.
+    pub number: u64,
+    /// The viewer's column at the frame's beginning, in samples.
+    pub x: i32,
+    /// The viewer's row at the frame's beginning, in samples.
+    pub y: i32,
+    /// The active region of the one level, in cells.
+    pub active: Region,
+}
+
+// Appends the lines at the head.
+fn append_head(text: &mut Vec<u8>, digits: &mut Buffer, header: &Header) -> Result<(), NoMemory>
+    ensures { OnOk result (text.new.items ≡ text.old.items ++ head_text header.now.number header.now.x header.now.y (header.now.active ∷ [])) }
+{
+    append_frame(text, digits, header.number)?;
+    append_viewer(text, digits, header.x, header.y)?;
+    append_level(text, digits, 0, &header.active)
+}
+
+// Appends a line for each vertex.
+fn append_vertices(
+    text: &mut Vec<u8>,
+    digits: &mut Buffer,
+    vertices: &[Vertex],
+) -> Result<(), NoMemory>
+    ensures { OnOk result (text.new.items ≡ text.old.items ++ flat_map vertex_line vertices.now) }
+{
+    for vertex in vertices {
+        append_vertex(text, digits, vertex)?;
+    }
+    Ok(())
+}
+
+// Appends a line for each triangle.
+fn append_triangles(
+    text: &mut Vec<u8>,
+    digits: &mut Buffer,
+    triangles: &[[u32; 3]],
+) -> Result<(), NoMemory>
+    ensures { OnOk result (text.new.items ≡ text.old.items ++ flat_map triangle_line triangles.now) }
+{
+    for triangle in triangles {
+        append_triangle(text, digits, triangle)?;
+    }
+    Ok(())
+}
+
+/// The text of a frame as a Wavefront OBJ file: the frame's number, the viewer and the level's active
+/// region as comments, then a line `v x height y` for each vertex, its height in metres with five digits
+/// after the point, and a line `f a b c` for each triangle, its vertices counted from 1.
+pub fn frame_text(alloc: Global, mesh: &Mesh, header: &Header) -> Result<Vec<u8>, NoMemory>
+    ensures text { IfOk result (λ text. text.items ≡ text_of_frame header.now.number header.now.x header.now.y (header.now.active ∷ []) mesh.now) }
+{
+    let mut text = Vec::new(alloc);
+    let mut digits = Buffer::new();
+    append_head(&mut text, &mut digits, header)?;
+    append_vertices(&mut text, &mut digits, mesh.vertices())?;
+    append_triangles(&mut text, &mut digits, mesh.triangles())?;
+    Ok(text)
+}
