@@ -1,0 +1,3 @@
+pub mod Prediction
+pub mod Patches
+pub mod Laws
