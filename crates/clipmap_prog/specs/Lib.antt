@@ -1,0 +1,4 @@
+pub mod Faults
+pub mod Outcome
+pub mod Reading
+pub mod Running

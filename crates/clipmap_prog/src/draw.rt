@@ -1,0 +1,56 @@
+//! The frame of whole windows round a viewer: its text and the line that tells of it.
+ghost use Rattle.std.specs.Prelude.{◌≡◌, ◌≤◌, ℤ, pos, neg_ℤ, ◌≤ℤ◌, IfOk, length, string_bytes};
+ghost use Rattle.clipmap_prog.specs.Outcome.{told_line, whole_line, whole_mesh, whole_text};
+
+use crate::level_mesh::level_mesh;
+use hgt_tiles::HgtTile;
+use level_frame::window;
+use mesh_model::one_level_mesh;
+use obj_frames::{Header, Mesh, NoMemory, frame_text};
+use std::alloc::{AllocError, Global};
+
+/// The text of a frame, and the line that tells of it.
+#[derive(Drop)]
+pub(crate) struct Drawn {
+    /// The frame's OBJ text.
+    pub(crate) text: Vec<u8>,
+    /// The line for the output.
+    pub(crate) line: String,
+}
+
+/// The line that tells of a frame with so many vertices and triangles.
+fn frame_line(
+    alloc: Global,
+    number: u64,
+    vertices: usize,
+    triangles: usize,
+) -> Result<String, AllocError>
+    ensures line { IfOk result (λ line. string_bytes line ≡ told_line number vertices triangles) }
+{
+    format!(in alloc; "frame {number} vertices {vertices} triangles {triangles}\n")
+}
+
+/// Draws frame 0 with the window whole round a viewer, over a tile.
+pub(crate) fn draw(alloc: Global, tile: &HgtTile, k: u8, x: i32, y: i32) -> Result<Drawn, NoMemory>
+    requires k_low { 4 ≤ k }
+    requires k_high { k ≤ 8 }
+    requires x_low { neg_ℤ (pos 4194304) ≤ℤ x }
+    requires x_high { x ≤ℤ pos 4194304 }
+    requires y_low { neg_ℤ (pos 4194304) ≤ℤ y }
+    requires y_high { y ≤ℤ pos 4194304 }
+    ensures text { IfOk result (λ drawn. drawn.text.items ≡ whole_text k x y tile.now.terrain) }
+    ensures line { IfOk result (λ drawn. string_bytes drawn.line ≡ whole_line k x y tile.now.terrain) }
+{
+    let active = window(k, 0, x, y);
+    let mesh = level_mesh(alloc, tile, &active)?;
+    one_level_mesh();
+    let header = Header {
+        number: 0,
+        x,
+        y,
+        active,
+    };
+    let text = frame_text(alloc, &mesh, &header)?;
+    let line = frame_line(alloc, 0, mesh.vertices().len(), mesh.triangles().len())?;
+    Ok(Drawn { text, line })
+}
