@@ -1,0 +1,17 @@
+pub mod LowBits
+pub mod ByteBits
+pub mod Forms
+pub mod Fronts
+pub mod FirstFault
+pub mod Best
+pub mod ResidualList
+pub mod FourBytes
+pub mod Registers
+pub mod Readings
+pub mod OnesRun
+pub mod OnesTaken
+pub mod CodeRead
+pub mod Writing
+pub mod EndRead
+pub mod WordRead
+pub mod CodeWrite
