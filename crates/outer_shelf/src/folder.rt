@@ -1,6 +1,6 @@
 // A shelf over the working folder.
-ghost use Rattle.std.specs.Prelude.{◌≡◌, ℕ, ◌≤◌, ◌<◌, None, true};
-ghost use Rattle.outer_shelf.specs.Counts.{Rose};
+ghost use Rattle.std.specs.Prelude.{◌≡◌, ℕ, ◌+◌, ◌≤◌, ◌<◌, None, true, IfOk, IfSome, take, vec_len};
+ghost use Rattle.outer_shelf.specs.Counts.{Rose, one_more};
 ghost use Rattle.outer_shelf.specs.Outside.{KeepsLimit, OnFetchFailed, OnPutFailed};
 
 use crate::traits::{Fetched, PutFault, Shelf};
@@ -72,7 +72,9 @@ fn is_want_of_memory(error: &io::Error) -> bool {
 }
 
 // The bytes of a file, of which at most one more than the limit is read.
-fn read_past_limit<F: Read + Drop>(file: F, alloc: Global, limit: u64) -> io::Result<Vec<u8>> {
+fn read_past_limit<F: Read + Drop>(file: F, alloc: Global, limit: u64) -> io::Result<Vec<u8>>
+    ensures front { IfOk result (λ bytes. IfSome (F.remaining file) (λ rest. bytes.items ≡ take (one_more limit) rest)) }
+{
     let mut bytes = Vec::new(alloc);
     file.take(limit.saturating_add(1)).read_to_end(&mut bytes)?;
     Ok(bytes)
@@ -82,6 +84,8 @@ fn read_past_limit<F: Read + Drop>(file: F, alloc: Global, limit: u64) -> io::Re
 fn found(bytes: Vec<u8>, limit: u64) -> Fetched
     ensures in_limit { KeepsLimit limit result }
     ensures never_failed { OnFetchFailed result ⊥ }
+    ensures short { vec_len bytes ≤ limit → result ≡ Fetched.Found bytes }
+    ensures long { limit < vec_len bytes → result ≡ Fetched.TooLong (limit + 1) limit }
 {
     if bytes.len() as u64 > limit {
         return Fetched::TooLong {
