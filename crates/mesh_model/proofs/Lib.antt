@@ -3,3 +3,4 @@ pub mod Places
 pub mod Heights
 pub mod Single
 pub mod Counts
+pub mod Whole

@@ -7,8 +7,9 @@ use Rattle.mesh_model.specs.declared.shapes.PartKind.TheVariants.{Whole}
 use Rattle.mesh_model.specs.declared.shapes.Vertex.{Vertex}
 use Rattle.mesh_model.specs.declared.shapes.Part.{Part}
 use Rattle.mesh_model.specs.Vertices.{place_of}
-use Rattle.mesh_model.specs.Conditions.{NameVertices, IsInside, BoundsHold}
-use Rattle.mesh_model.specs.Mesh.{mesh, vertices_of, bounds_of}
+use Rattle.mesh_model.specs.Conditions.{NameVertices, IsInside, CoverInOrder, BoundsHold}
+use Rattle.mesh_model.specs.Parts.{PartTriangles}
+use Rattle.mesh_model.specs.Mesh.{mesh, mesh_of_parts, vertices_of, bounds_of}
 use Rattle.mesh_model.specs.OneLevel.{one_level_vertices, one_level_triangles}
 
 -- the vertices of one active region are its cells row by row, each at 32 times its height
@@ -62,3 +63,16 @@ abbrev pub BoxHolds : Type 0
 BoxHolds =
     (vertices : List Vertex) (triangles : List (List ℕ)) (part : Part) →
     All (IsInside part.bounds) vertices → NameVertices (length vertices) triangles → BoundsHold vertices triangles (part ∷ [])
+
+-- the parts of a mesh cover its triangles in order, without gaps
+abbrev pub PartsCover : Type 0
+PartsCover =
+    (vertices : List Vertex) (parts : List PartTriangles) →
+    CoverInOrder 0 (length (mesh_of_parts vertices parts).triangles) (mesh_of_parts vertices parts).parts
+
+-- the bounds of each part of a mesh hold the vertices of its triangles, where these name vertices
+abbrev pub PartsAreBounded : Type 0
+PartsAreBounded =
+    (vertices : List Vertex) (parts : List PartTriangles) →
+    NameVertices (length vertices) (mesh_of_parts vertices parts).triangles →
+    BoundsHold vertices (mesh_of_parts vertices parts).triangles (mesh_of_parts vertices parts).parts

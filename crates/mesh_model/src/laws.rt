@@ -1,6 +1,6 @@
 //! Laws over the definitions alone: each function does nothing, and its contract is the law.
 
-ghost use Rattle.mesh_model.specs.Laws.{OneLevelVertices, OneLevelPlaces, OneLevelTriangles, OneLevelParts, OneLevelVertexCount, OneLevelTriangleCount, OneLevelNames, BoxHolds};
+ghost use Rattle.mesh_model.specs.Laws.{OneLevelVertices, OneLevelPlaces, OneLevelTriangles, OneLevelParts, OneLevelVertexCount, OneLevelTriangleCount, OneLevelNames, BoxHolds, PartsCover, PartsAreBounded};
 
 /// The mesh of one active region that isn't empty: its cells row by row, its squares row by row.
 pub fn one_level_mesh()
@@ -20,4 +20,10 @@ pub fn one_level_counts()
 /// A box round all vertices of a mesh is a box round those of any part.
 pub fn box_holds()
     ensures { BoxHolds }
+{}
+
+/// The parts of any mesh cover its triangles in order, and their bounds hold the vertices of these.
+pub fn parts_of_mesh()
+    ensures cover { PartsCover }
+    ensures bounds { PartsAreBounded }
 {}

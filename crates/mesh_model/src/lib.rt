@@ -7,5 +7,5 @@
 mod laws;
 mod shapes;
 
-pub use laws::{box_holds, one_level_counts, one_level_mesh};
+pub use laws::{box_holds, one_level_counts, one_level_mesh, parts_of_mesh};
 pub use shapes::{Bounds, Part, PartKind, Vertex};
