@@ -1,5 +1,5 @@
 -- The frame that is drawn is the frame of whole windows.
-use Rattle.std.proofs.Common.{◌≡◌, ℕ, ◌+◌, ◌*◌, ◌-◌, ◌^◌, ◌<◌, ◌≤◌, ℤ, pos, ◌+ℤ◌, ◌-ℤ◌, false, List, [], ◌∷◌, length, refl, sym, ◌∙◌, ap, subst, arith}
+use Rattle.std.proofs.Common.{◌≡◌, ℕ, ◌+◌, ◌*◌, ◌-◌, ◌^◌, ◌≤◌, ℤ, pos, ◌+ℤ◌, false, List, [], ◌∷◌, length, sym, ◌∙◌, ap, arith}
 use Rattle.std.proofs.Math.Pow.{pow_mono}
 use borrow.Author.Differences.{ints}
 use Rattle.clip_regions.specs.declared.region.Region.{Region}
@@ -10,7 +10,7 @@ use Rattle.mesh_model.specs.Mesh.{MeshLists, mesh}
 use Rattle.mesh_model.specs.Text.{frame_text}
 use Rattle.mesh_model.specs.OneLevel.{one_level_vertices, one_level_triangles}
 use Rattle.clipmap_prog.specs.Outcome.{told_line, whole_regions, whole_mesh, whole_text, whole_line}
-use Rattle.clipmap_prog.proofs.Sides.{InOrder, in_order, columns_is, rows_is}
+use Rattle.clipmap_prog.proofs.Sides.{in_order, columns_is, rows_is}
 
 -- half a window has at most 127 cells
 pub half_few : (k : ℕ) → k ≤ 8 → half_width k ≤ 127

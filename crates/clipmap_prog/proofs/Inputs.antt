@@ -1,5 +1,5 @@
 -- What a tile that was read says of the terrain of its file.
-use Rattle.std.proofs.Common.{◌≡◌, ℕ, zero, suc, nat_eq, ◌≤◌, List, length, Option, Some, None, Result, Ok, Err, refl, ap, sym, ◌∙◌, subst, nat_lt, if◌then◌else◌, false, true, Bool, arith}
+use Rattle.std.proofs.Common.{◌≡◌, ℕ, nat_eq, ◌≤◌, List, length, Option, Some, None, Ok, refl, ap, ◌∙◌, subst, if◌then◌else◌, false, true, Bool, arith}
 use Rattle.std.specs.Option.{option_map}
 use Rattle.std.specs.Result.{IsErrAnd}
 use Rattle.std.proofs.lemmas.Bool.{le-ltb}
@@ -8,8 +8,8 @@ use Rattle.terrain_model.specs.Terrain.{Terrain}
 use Rattle.terrain_model.specs.Tile.{side_of_length, tile_terrain, void_count}
 use Rattle.terrain_model.specs.declared.Corner.{Corner}
 use Rattle.hgt_tiles.specs.TileView.{TileView, tile_at, tile_of_bytes}
-use Rattle.clipmap_prog.specs.Faults.{Cause, TooLong, NotYet}
-use Rattle.clipmap_prog.specs.Reading.{Refusal, hgt_limit, read, whole_terrain, terrain_of_side, terrain_of_file}
+use Rattle.clipmap_prog.specs.Faults.{TooLong, NotYet}
+use Rattle.clipmap_prog.specs.Reading.{hgt_limit, read, whole_terrain, terrain_of_side, terrain_of_file}
 
 -- a file within the limit is judged by its side
 within_limit : (name bytes : List ℕ) → length bytes ≤ 25934402 → terrain_of_file name (Some bytes) ≡ terrain_of_side name bytes (side_of_length (length bytes))

@@ -1,5 +1,5 @@
 -- The triangles of a square, as the code counts their places.
-use Rattle.std.proofs.Common.{◌≡◌, ℕ, ◌+◌, ◌*◌, List, [], ◌∷◌, ap, arith}
+use Rattle.std.proofs.Common.{◌≡◌, ℕ, ◌+◌, ◌*◌, [], ◌∷◌, ap, arith}
 use Rattle.mesh_model.specs.OneLevel.{one_level_square}
 
 -- the square in column u and row v, where a row has w vertices

@@ -1,5 +1,5 @@
 -- What a command does to the outside: a status, the files fetched, and the puts and writes in their order.
-use Rattle.std.specs.Prelude.{◌≡◌, ℕ, ◌+◌, ℤ, List, [], ◌∷◌, ◌++◌, codes, decimal, length, Option, Some, None, Result, Ok, Err, IfSome}
+use Rattle.std.specs.Prelude.{ℕ, ◌+◌, ℤ, List, [], ◌∷◌, ◌++◌, codes, decimal, length, Option, Some, None, Result, Ok, Err}
 use Rattle.outer_shelf.specs.Outside.{Files, files_with}
 use Rattle.clip_regions.specs.declared.region.Region.{Region}
 use Rattle.terrain_model.specs.Terrain.{Terrain}

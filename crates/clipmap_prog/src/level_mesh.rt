@@ -152,6 +152,8 @@ fn level_triangles(alloc: Global, width: u32, height: u32) -> Result<Vec<[u32; 3
 
 /// The one part of a level without a hole: all of its triangles, in the box of its vertices.
 fn whole_part(vertices: &[Vertex], triangles: u32) -> Part
+    ensures level { result.level ≡ 0 }
+    ensures kind { result.kind ≡ PartKind.Whole }
     ensures first { result.first ≡ 0 }
     ensures count { result.count ≡ triangles }
     ensures bounds { All (IsInside result.bounds) vertices.now }

@@ -76,6 +76,7 @@ fn line(text: &[u8], number: usize) -> &[u8] {
 
 const FIRST: [&str; 7] = ["frame", "4", "1", "1", "1", "out.obj", TILE];
 
+/// The first run of the program. It refuses a body that always answers want of memory, which no clause can.
 #[test]
 fn first_frame(rt: HostRuntime) {
     let Ok(left) = ran(&rt, &FIRST, &NINE, &[], &[]) else {

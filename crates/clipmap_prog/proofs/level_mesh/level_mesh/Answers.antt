@@ -1,4 +1,4 @@
-use Rattle.std.proofs.Common.{◌≡◌, ℕ, ◌*◌, ◌-◌, List, [], ◌∷◌, length, All, sym, ◌∙◌, ap, subst}
+use Rattle.std.proofs.Common.{◌≡◌, ℕ, ◌*◌, ◌-◌, List, length, All, sym, ◌∙◌, ap, subst}
 use Rattle.std.specs.List.{flat_map, range_with_len}
 use Rattle.clip_regions.specs.Regions.{columns, rows}
 use Rattle.mesh_model.specs.declared.shapes.Vertex.{Vertex}

@@ -1,7 +1,5 @@
-use Rattle.std.proofs.Common.{◌≡◌, ℤ, pos, ◌+ℤ◌, ◌*ℤ◌, arith, ap, sym, ◌∙◌, refl, w32, to_z, of_z, FitsSigned}
+use Rattle.std.proofs.Common.{arith}
 use borrow.Author.Differences.{ints}
-use Rattle.terrain_model.specs.Terrain.{height_at}
-use Rattle.mesh_model.specs.OneLevel.{one_level_vertex}
 use Rattle.clipmap_prog.proofs.Vertices.{same_vertex}
 use Rattle.clipmap_prog.proofs.level_mesh.vertex.Goals as goal
 

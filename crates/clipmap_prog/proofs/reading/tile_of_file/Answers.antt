@@ -1,9 +1,9 @@
-use Rattle.std.proofs.Common.{◌≡◌, sym, ◌∙◌, subst, ap, arith, rules, Result, nat_eq, if◌then◌else◌, Ok}
+use Rattle.std.proofs.Common.{◌≡◌, sym, ◌∙◌, subst, Result}
 use Rattle.std.specs.Result.{IsErrAnd}
 use Rattle.terrain_model.specs.Terrain.{Terrain}
 use Rattle.terrain_model.specs.Tile.{void_count}
 use Rattle.clipmap_prog.specs.Faults.{NotYet}
-use Rattle.clipmap_prog.specs.Reading.{Refusal, whole_terrain, read}
+use Rattle.clipmap_prog.specs.Reading.{Refusal}
 use Rattle.clipmap_prog.proofs.Inputs.{of_tile, whole_of_none, refused_of_some}
 use Rattle.clipmap_prog.proofs.reading.tile_of_file.Goals as goal
 
