@@ -1,0 +1,4 @@
+pub mod Placed
+pub mod Cells
+pub mod Strips
+pub mod Rings
