@@ -42,7 +42,7 @@ in_grid width height u v narrow low =
     let below : v + 1 ≤ height = omega arith in
     omega (arith, mul-le-mul_left width below)
 
-all_three : (count a b c : ℕ) → a < count → b < count → c < count → All (λ place. place < count) (a ∷ b ∷ c ∷ [])
+pub all_three : (count a b c : ℕ) → a < count → b < count → c < count → All (λ place. place < count) (a ∷ b ∷ c ∷ [])
 all_three count a b c ha hb hc =
     let P : ℕ → Type 0 = λ place. place < count in
     All-cons P a (b ∷ c ∷ []) ha (All-cons P b (c ∷ []) hb (All-cons P c [] hc (All-nil P)))

@@ -4,3 +4,9 @@ pub mod Heights
 pub mod Single
 pub mod Counts
 pub mod Whole
+pub mod Rectangles
+pub mod Cells
+pub mod Listed
+pub mod Named
+pub mod Tallies
+pub mod Apart

@@ -18,7 +18,7 @@ other_int x y n = cases (int_eq x y) refl
     cases true e = absurd (n ((Decides-int_eq x y).0 e))
     cases false e = refl
 
-hit : (vertex : Vertex) (vertices : List Vertex) (x z : ℤ) → vertex.x ≡ x → vertex.z ≡ z → place_of (vertex ∷ vertices) x z ≡ 0
+pub hit : (vertex : Vertex) (vertices : List Vertex) (x z : ℤ) → vertex.x ≡ x → vertex.z ≡ z → place_of (vertex ∷ vertices) x z ≡ 0
 hit vertex vertices x z ex ez = rw (same_int vertex.x x ex, same_int vertex.z z ez) refl
 
 miss_row : (vertex : Vertex) (vertices : List Vertex) (x z : ℤ) → vertex.z ≢ z → place_of (vertex ∷ vertices) x z ≡ place_of vertices x z + 1

@@ -11,19 +11,19 @@ use Rattle.mesh_model.specs.Parts.{PartTriangles}
 use Rattle.mesh_model.specs.Mesh.{least, greatest, bounds_of, vertices_of, part_at, parts_from, mesh_of_parts}
 use Rattle.mesh_model.specs.Conditions.{NameVertices, CoverInOrder, IsInside, HoldsVertices, BoundsHold, triangles_of_part}
 
-all_left : {A : Type 0} (P : A → Type 0) (xs ys : List A) → All P (xs ++ ys) → All P xs
+pub all_left : {A : Type 0} (P : A → Type 0) (xs ys : List A) → All P (xs ++ ys) → All P xs
 all_left P xs ys h k d low =
     subst P (get_or_append_left xs ys d k low) (h k d (omega (arith, length-append xs ys)))
 
-all_right : {A : Type 0} (P : A → Type 0) (xs ys : List A) → All P (xs ++ ys) → All P ys
+pub all_right : {A : Type 0} (P : A → Type 0) (xs ys : List A) → All P (xs ++ ys) → All P ys
 all_right P xs ys h k d low =
     subst P (get_or-append-add xs ys k d) (h (length xs + k) d (omega (arith, length-append xs ys)))
 
-all_of_map : {A B : Type 0} (P : B → Type 0) (f : A → B) (xs : List A) → All P (map f xs) → All (λ x. P (f x)) xs
+pub all_of_map : {A B : Type 0} (P : B → Type 0) (f : A → B) (xs : List A) → All P (map f xs) → All (λ x. P (f x)) xs
 all_of_map P f xs h k d low =
     subst P (get_or-map f xs k d (f d) low) (h k (f d) (omega (arith, length-map xs f)))
 
-all_of_flat_map : {A B : Type 0} (P : B → Type 0) (f : A → List B) (xs : List A) → All P (flat_map f xs) → All (λ x. All P (f x)) xs
+pub all_of_flat_map : {A B : Type 0} (P : B → Type 0) (f : A → List B) (xs : List A) → All P (flat_map f xs) → All (λ x. All P (f x)) xs
 all_of_flat_map P f [] h = All-nil (λ x. All P (f x))
 all_of_flat_map P f (x ∷ xs) h =
     All-cons (λ y. All P (f y)) x xs (all_left P (f x) (flat_map f xs) h)

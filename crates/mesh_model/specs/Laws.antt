@@ -1,16 +1,19 @@
 -- Laws over the definitions alone.
-use Rattle.std.specs.Prelude.{◌≡◌, ℕ, All, ◌*◌, ◌+◌, ◌-◌, ◌<◌, ◌≤◌, false, pos, ◌+ℤ◌, List, [], ◌∷◌, length}
+use Rattle.std.specs.Prelude.{◌≡◌, ℕ, All, AllPairs, ◌*◌, ◌+◌, ◌-◌, ◌<◌, ◌≤◌, false, pos, ◌+ℤ◌, List, [], ◌∷◌, length, slice_index_or}
 use Rattle.clip_regions.specs.declared.region.Region.{Region}
-use Rattle.clip_regions.specs.Regions.{is_empty, columns, rows}
+use Rattle.clip_regions.specs.Regions.{is_empty, empty_region, columns, rows}
+use Rattle.plan_model.specs.Actives.{actives}
+use Rattle.plan_model.specs.Laws.{AllEvenOrEmpty, AreNested}
 use Rattle.terrain_model.specs.Terrain.{Terrain}
 use Rattle.mesh_model.specs.declared.shapes.PartKind.TheVariants.{Whole}
 use Rattle.mesh_model.specs.declared.shapes.Vertex.{Vertex}
 use Rattle.mesh_model.specs.declared.shapes.Part.{Part}
-use Rattle.mesh_model.specs.Vertices.{place_of}
+use Rattle.mesh_model.specs.Vertices.{place_of, mesh_vertices}
 use Rattle.mesh_model.specs.Conditions.{NameVertices, IsInside, CoverInOrder, BoundsHold}
 use Rattle.mesh_model.specs.Parts.{PartTriangles}
 use Rattle.mesh_model.specs.Mesh.{mesh, mesh_of_parts, vertices_of, bounds_of}
 use Rattle.mesh_model.specs.OneLevel.{one_level_vertices, one_level_triangles}
+use Rattle.mesh_model.specs.Nested.{StandApart, vertex_count, ring_count, all_stitch_count}
 
 -- the vertices of one active region are its cells row by row, each at 32 times its height
 abbrev pub OneLevelVertices : Type 0
@@ -76,3 +79,43 @@ PartsAreBounded =
     (vertices : List Vertex) (parts : List PartTriangles) →
     NameVertices (length vertices) (mesh_of_parts vertices parts).triangles →
     BoundsHold vertices (mesh_of_parts vertices parts).triangles (mesh_of_parts vertices parts).parts
+
+-- the triangles of a mesh of nested regions name its vertices
+abbrev pub NestedNames : Type 0
+NestedNames =
+    (terrain : Terrain) (k e : ℕ) (actives : List Region) → AllEvenOrEmpty actives → AreNested e actives →
+    NameVertices (length (mesh terrain k actives).vertices) (mesh terrain k actives).triangles
+
+-- no two vertices of a mesh of nested regions stand at one position
+abbrev pub VerticesApart : Type 0
+VerticesApart =
+    (terrain : Terrain) (k e : ℕ) (actives : List Region) → AreNested e actives → AllPairs StandApart (mesh_vertices terrain k actives)
+
+-- where no two vertices of a list stand at one position, the place of each is where it stands in the list
+abbrev pub OwnPlaces : Type 0
+OwnPlaces =
+    (vertices : List Vertex) → AllPairs StandApart vertices → (place : ℕ) (none : Vertex) → place < length vertices →
+    place_of vertices (slice_index_or vertices place none).x (slice_index_or vertices place none).z ≡ place
+
+-- a mesh of nested regions has a vertex for each cell of a region outside its hole
+abbrev pub NestedVertexCount : Type 0
+NestedVertexCount =
+    (terrain : Terrain) (k e : ℕ) (actives : List Region) → AreNested e actives →
+    length (mesh terrain k actives).vertices ≡ vertex_count empty_region actives
+
+-- a mesh of nested regions has two triangles for each square of a region outside its hole, and the stitches
+abbrev pub NestedTriangleCount : Type 0
+NestedTriangleCount =
+    (terrain : Terrain) (k e : ℕ) (actives : List Region) → AllEvenOrEmpty actives → AreNested e actives →
+    length (mesh terrain k actives).triangles ≡ 2 * ring_count empty_region actives + all_stitch_count actives
+
+-- the triangles of the mesh of a plan's active regions name its vertices
+abbrev pub DrawnNames : Type 0
+DrawnNames =
+    (terrain : Terrain) (k : ℕ) (filled : List Region) → AllEvenOrEmpty filled →
+    NameVertices (length (mesh terrain k (actives k filled)).vertices) (mesh terrain k (actives k filled)).triangles
+
+-- no two vertices of the mesh of a plan's active regions stand at one position
+abbrev pub DrawnApart : Type 0
+DrawnApart =
+    (terrain : Terrain) (k : ℕ) (filled : List Region) → AllPairs StandApart (mesh_vertices terrain k (actives k filled))

@@ -7,4 +7,5 @@ pub mod Text
 pub mod Seen
 pub mod Watertight
 pub mod OneLevel
+pub mod Nested
 pub mod Laws

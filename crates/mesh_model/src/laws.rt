@@ -1,6 +1,8 @@
-//! Laws over the definitions alone: each function does nothing, and its contract is the law.
+//! Laws over the definitions alone: each function does nothing, or calls the laws that it follows from, and its contract is the law.
 
-ghost use Rattle.mesh_model.specs.Laws.{OneLevelVertices, OneLevelPlaces, OneLevelTriangles, OneLevelParts, OneLevelVertexCount, OneLevelTriangleCount, OneLevelNames, BoxHolds, PartsCover, PartsAreBounded};
+ghost use Rattle.mesh_model.specs.Laws.{OneLevelVertices, OneLevelPlaces, OneLevelTriangles, OneLevelParts, OneLevelVertexCount, OneLevelTriangleCount, OneLevelNames, BoxHolds, PartsCover, PartsAreBounded, NestedNames, VerticesApart, OwnPlaces, NestedVertexCount, NestedTriangleCount, DrawnNames, DrawnApart};
+
+use plan_model::{actives_are_nested, actives_have_even_corners};
 
 /// The mesh of one active region that isn't empty: its cells row by row, its squares row by row.
 pub fn one_level_mesh()
@@ -27,3 +29,32 @@ pub fn parts_of_mesh()
     ensures cover { PartsCover }
     ensures bounds { PartsAreBounded }
 {}
+
+/// The triangles of a mesh of nested active regions name its vertices.
+pub fn nested_names()
+    ensures { NestedNames }
+{}
+
+/// No two vertices of a mesh of nested active regions stand at one position, so that each has a place of its own.
+pub fn vertices_apart()
+    ensures positions { VerticesApart }
+    ensures places { OwnPlaces }
+{}
+
+/// How many vertices and triangles the mesh of nested active regions has.
+pub fn nested_counts()
+    ensures vertices { NestedVertexCount }
+    ensures triangles { NestedTriangleCount }
+{}
+
+/// The active regions of a plan are nested, so that the triangles of their mesh name its vertices and
+/// no two of these stand at one position.
+pub fn drawn_mesh()
+    ensures names { DrawnNames }
+    ensures apart { DrawnApart }
+{
+    actives_are_nested();
+    actives_have_even_corners();
+    nested_names();
+    vertices_apart();
+}

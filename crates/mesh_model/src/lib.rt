@@ -7,5 +7,8 @@
 mod laws;
 mod shapes;
 
-pub use laws::{box_holds, one_level_counts, one_level_mesh, parts_of_mesh};
+pub use laws::{
+    box_holds, drawn_mesh, nested_counts, nested_names, one_level_counts, one_level_mesh,
+    parts_of_mesh, vertices_apart,
+};
 pub use shapes::{Bounds, Part, PartKind, Vertex};

@@ -5,11 +5,11 @@ use Rattle.std.proofs.Math.IntN.{pos-*ℤ-pos, negsuc-*ℤ-pos}
 use Rattle.std.proofs.lemmas.Int.{ints}
 use Rattle.clip_regions.specs.declared.region.Region.{Region}
 use Rattle.clip_regions.specs.Regions.{columns, rows}
-use Rattle.mesh_plain.specs.Placed.{IsPlacedAt, ArePlaced, IsSquarePlaced}
+use Rattle.vertex_heights.specs.Placed.{IsPlacedAt, ArePlaced, IsSquarePlaced}
 use Rattle.mesh_plain.specs.Cells.{cell_in}
 use Rattle.mesh_plain.proofs.Gaps.{gap_holds}
 
-scaled : (a b : ℤ) (s : ℕ) → a ≤ℤ b → (a *ℤ pos s) ≤ℤ (b *ℤ pos s)
+pub scaled : (a b : ℤ) (s : ℕ) → a ≤ℤ b → (a *ℤ pos s) ≤ℤ (b *ℤ pos s)
 scaled (pos a) (pos b) s h =
     let below : a ≤ b = omega (arith, ints) in
     omega (arith, ints, pos-*ℤ-pos a s, pos-*ℤ-pos b s, mul-le-mul_right s below)
@@ -19,7 +19,7 @@ scaled (negsuc a) (negsuc b) s h =
     let below : b + 1 ≤ a + 1 = omega (arith, ints) in
     omega (arith, ints, negsuc-*ℤ-pos a s, negsuc-*ℤ-pos b s, mul-le-mul_right s below)
 
-placed_between : (level : ℕ) (a b i : ℤ) → IsPlacedAt level a → IsPlacedAt level b → a ≤ℤ i → i ≤ℤ b → IsPlacedAt level i
+pub placed_between : (level : ℕ) (a b i : ℤ) → IsPlacedAt level a → IsPlacedAt level b → a ≤ℤ i → i ≤ℤ b → IsPlacedAt level i
 placed_between level a b i from to low high = record {
   low = omega (arith, ints, from.low, scaled a i (2 ^ level) low);
   high = omega (arith, ints, to.high, scaled i b (2 ^ level) high);

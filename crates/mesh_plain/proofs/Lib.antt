@@ -1,7 +1,14 @@
-pub mod Passing
 pub mod Gaps
 pub mod Grids
 pub mod Between
 pub mod Walks
 pub mod Listed
-pub mod Blends
+pub mod Blocks
+pub mod SquareParts
+pub mod Borders
+pub mod Halves
+pub mod Levels
+pub mod Spread
+pub mod Boxes
+pub mod Nears
+pub mod Alike

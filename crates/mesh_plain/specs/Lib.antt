@@ -1,4 +1,6 @@
-pub mod Placed
 pub mod Cells
 pub mod Strips
 pub mod Rings
+pub mod Frames
+pub mod Blocks
+pub mod Corners

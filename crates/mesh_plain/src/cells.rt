@@ -5,10 +5,10 @@ ghost use Rattle.std.specs.List.{range_with_len};
 ghost use Rattle.clip_regions.specs.Regions.{columns as columns_of, rows as rows_of, cells as cells_of, IsWithin};
 ghost use Rattle.mesh_plain.specs.Cells.{cell_in, named};
 
-use crate::places::Cell;
 use clip_regions::Region;
 use obj_frames::NoMemory;
 use std::alloc::{AllocError, Global};
+use vertex_heights::Cell;
 
 // How many columns a region has.
 pub(crate) fn columns(region: &Region) -> u32
@@ -65,7 +65,7 @@ fn add_row(cells: &mut Vec<Cell>, level: u8, region: &Region, v: u32) -> Result<
 /// The cells of a region with their level, row by row, each row from the west.
 pub fn region_cells(alloc: Global, level: u8, region: &Region) -> Result<Vec<Cell>, NoMemory>
     requires { IsWithin (2 ^ 24) region.now }
-    ensures { IfOk result (λ cells. cells.items ≡ map (named level) (cells_of region.now)) }
+    ensures value { IfOk result (λ cells. cells.items ≡ map (named level) (cells_of region.now)) }
 {
     let mut cells = Vec::new(alloc);
     for v in 0..rows(region) {

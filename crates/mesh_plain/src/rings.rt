@@ -7,15 +7,15 @@ ghost use Rattle.mesh_plain.specs.Cells.{named};
 ghost use Rattle.mesh_plain.specs.Rings.{IsActive, is_outside, level_cell};
 
 use crate::cells::region_cells;
-use crate::places::Cell;
 use clip_regions::Region;
 use obj_frames::NoMemory;
 use std::alloc::{AllocError, Global};
+use vertex_heights::Cell;
 
 /// What a finer active region leaves out of the next coarser one: its half, and nothing where it is empty.
 pub fn hole(finer: &Region) -> Region
     requires { IsActive finer.now }
-    ensures { result ≡ hole_of finer.now }
+    ensures value { result ≡ hole_of finer.now }
 {
     if finer.is_empty() {
         Region::empty()
@@ -65,7 +65,7 @@ fn add_level(
 pub fn listed_vertices(alloc: Global, actives: &[Region]) -> Result<Vec<Cell>, NoMemory>
     requires levels { length actives.now ≤ 12 }
     requires actives { All IsActive actives.now }
-    ensures { IfOk result (λ listed. map level_cell listed.items ≡ listed_of actives.now) }
+    ensures value { IfOk result (λ listed. map level_cell listed.items ≡ listed_of actives.now) }
 {
     let mut listed = Vec::new(alloc);
     let mut finer = Region::empty();

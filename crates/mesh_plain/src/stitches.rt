@@ -21,7 +21,7 @@ fn two_steps(alloc: Global, walk: &[u32]) -> Result<Vec<[u32; 3]>, AllocError>
 
 /// The stitches along a walk of places: each two steps, from p over m to q, give the triangle p, m, q.
 pub fn stitches_along(alloc: Global, walk: &[u32]) -> Result<Vec<[u32; 3]>, NoMemory>
-    ensures { IfOk result (λ stitches. stitches.items ≡ stitches_of_walk walk.now) }
+    ensures value { IfOk result (λ stitches. stitches.items ≡ stitches_of_walk walk.now) }
 {
     let stitches = two_steps(alloc, walk)?;
     Ok(stitches)

@@ -1,11 +1,10 @@
 //! Worked examples.
 
-use crate::{
-    Cell, blend_share, block_triangles, hole, listed_vertices, lower_end, region_cells,
-    stitches_along, upper_end,
-};
+use crate::{block_triangles, hole, listed_vertices, mesh_vertices, region_cells, stitches_along};
 use clip_regions::Region;
+use height_pyramid::Grid;
 use mesh_model::Vertex;
+use std::alloc::Global;
 use std::test::Fail;
 
 const FINE: Region = Region {
@@ -61,24 +60,6 @@ fn lists_squares_and_stitches(rt: HostRuntime) -> Result<(), Fail> {
 }
 
 #[test]
-fn shares_fall_towards_the_inside(rt: HostRuntime) {
-    let border = Cell {
-        level: 0,
-        i: 4,
-        j: 5,
-    };
-    let inside = Cell {
-        level: 1,
-        i: 3,
-        j: 3,
-    };
-    assert_eq!(rt; blend_share(4, false, &FINE, &border), 1);
-    assert_eq!(rt; blend_share(8, false, &COARSE, &inside), 13);
-    assert_eq!(rt; blend_share(8, true, &COARSE, &inside), 0);
-    assert_eq!(rt; (lower_end(-3), upper_end(-3)), (-2, -1));
-}
-
-#[test]
 #[tactic(auto, unfolding(clip_regions::specs::FloorDivision::floor_rem))]
 fn lists_each_position_once(rt: HostRuntime) -> Result<(), Fail> {
     assert_eq!(rt;
@@ -91,5 +72,30 @@ fn lists_each_position_once(rt: HostRuntime) -> Result<(), Fail> {
         }
     );
     assert_eq!(rt; listed_vertices(rt.alloc(), &[FINE, COARSE])?.len(), 65);
+    Ok(())
+}
+
+// Nine columns and nine rows of heights, most of them 0.
+fn terrain(alloc: Global) -> Result<Grid, Fail> {
+    let mut heights = vec![in alloc; 0i16; 81]?;
+    heights[4 * 9 + 4] = 10;
+    heights[6 * 9 + 4] = 13;
+    heights[8 * 9 + 2] = 90;
+    heights[8 * 9 + 3] = 100;
+    heights[8 * 9 + 4] = 95;
+    Ok(Grid::new(9, 9, heights))
+}
+
+#[test]
+fn lists_vertices(rt: HostRuntime) -> Result<(), Fail> {
+    let terrain = terrain(rt.alloc())?;
+    let vertices = mesh_vertices(rt.alloc(), &terrain, 4, &[FINE, COARSE])?;
+    assert_eq!(rt; vertices.len(), 65);
+    let first = Vertex {
+        x: 4,
+        z: 4,
+        height: 320,
+    };
+    assert_eq!(rt; vertices[0], first);
     Ok(())
 }

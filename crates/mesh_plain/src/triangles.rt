@@ -5,14 +5,14 @@ ghost use Rattle.std.specs.List.{range_with_len};
 ghost use Rattle.clip_regions.specs.Regions.{columns as columns_of, rows as rows_of, cells as cells_of, IsWithin};
 ghost use Rattle.mesh_model.specs.Parts.{square_triangles as triangles_of_square};
 ghost use Rattle.mesh_plain.specs.Strips.{strip_square};
-ghost use Rattle.mesh_plain.specs.Placed.{IsPlacedAt, ArePlaced, IsSquarePlaced};
+ghost use Rattle.vertex_heights.specs.Placed.{IsPlacedAt, ArePlaced, IsSquarePlaced};
 
 use crate::cells::{cell_at, columns, rows};
-use crate::places::{Cell, corner_place};
 use clip_regions::Region;
 use mesh_model::Vertex;
 use obj_frames::NoMemory;
 use std::alloc::{AllocError, Global};
+use vertex_heights::{Cell, corner_place};
 
 // The cell east of a cell.
 fn east_of(cell: &Cell) -> Cell
@@ -43,7 +43,7 @@ pub fn square_triangles(vertices: &[Vertex], cell: &Cell) -> [[u32; 3]; 2]
     requires few { length vertices.now < 2 ^ 31 }
     requires level { cell.now.level < 12 }
     requires square { IsSquarePlaced cell.now }
-    ensures { result ≡ triangles_of_square vertices.now cell.now.level cell.now.i cell.now.j }
+    ensures value { result ≡ triangles_of_square vertices.now cell.now.level cell.now.i cell.now.j }
 {
     let east = east_of(cell);
     let south = south_of(cell);
@@ -103,7 +103,7 @@ pub fn block_triangles(
     requires level { level < 12 }
     requires within { IsWithin (2 ^ 24) squares.now }
     requires placed { ArePlaced level squares.now }
-    ensures { IfOk result (λ triangles. triangles.items ≡ flat_map (λ cell. triangles_of_square vertices.now level cell.0 cell.1) (cells_of squares.now)) }
+    ensures value { IfOk result (λ triangles. triangles.items ≡ flat_map (λ cell. triangles_of_square vertices.now level cell.0 cell.1) (cells_of squares.now)) }
 {
     let mut triangles = Vec::new(alloc);
     for v in 0..rows(squares) {

@@ -2,7 +2,7 @@
 use Rattle.std.proofs.Common.{◌≡◌, ℕ, ◌++◌, List, map, ap, ◌∙◌, sym, arith}
 use Rattle.std.specs.List.{range_with_len, flat_map}
 use Rattle.clip_regions.specs.Regions.{columns, rows}
-use Rattle.mesh_plain.specs.declared.places.Cell.{Cell}
+use Rattle.vertex_heights.specs.declared.places.Cell.{Cell}
 use Rattle.mesh_plain.specs.Cells.{cell_in, named}
 use Rattle.mesh_plain.proofs.Grids.{map_grid, rows_more}
 use Rattle.mesh_plain.proofs.cells.region_cells.Goals as goal
@@ -16,8 +16,11 @@ loop-v-preserved c =
 
 pub returns : goal.returns
 returns c =
-    let row = λ (v : ℕ). map (cell_in c.args.level c.args.region.now v) (range_with_len 0 (columns c.args.region.now)) in
-    let all : c.loop-v.v ≡ rows c.args.region.now = omega (arith, c.rows-v-end.ensures.value) in
-    c.loop-v.invariant
-    ∙ ap (λ (n : ℕ). flat_map row (range_with_len 0 n)) all
-    ∙ sym (map_grid (named c.args.level) c.args.region.now.x0 c.args.region.now.y0 (columns c.args.region.now) (rows c.args.region.now))
+    record {
+      value =
+          let row = λ (v : ℕ). map (cell_in c.args.level c.args.region.now v) (range_with_len 0 (columns c.args.region.now)) in
+          let all : c.loop-v.v ≡ rows c.args.region.now = omega (arith, c.rows-v-end.ensures.value) in
+          c.loop-v.invariant
+          ∙ ap (λ (n : ℕ). flat_map row (range_with_len 0 n)) all
+          ∙ sym (map_grid (named c.args.level) c.args.region.now.x0 c.args.region.now.y0 (columns c.args.region.now) (rows c.args.region.now));
+    }

@@ -5,8 +5,8 @@ use Rattle.mesh_plain.proofs.rings.hole.Goals as goal
 
 pub returns-then-is_empty : goal.returns-then-is_empty
 unfolding hole
-returns-then-is_empty c = search rules
+returns-then-is_empty c = record { value = search rules }
 
 pub returns-else-is_empty : goal.returns-else-is_empty
 unfolding hole
-returns-else-is_empty c = search rules
+returns-else-is_empty c = record { value = search rules }

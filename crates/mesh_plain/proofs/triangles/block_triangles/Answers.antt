@@ -16,8 +16,11 @@ loop-v-preserved c =
 
 pub returns : goal.returns
 returns c =
-    let row = λ (v : ℕ). flat_map (strip_square c.args.vertices.now c.args.level c.args.squares.now v) (range_with_len 0 (columns c.args.squares.now)) in
-    let all : c.loop-v.v ≡ rows c.args.squares.now = omega (arith, c.rows-v-end.ensures.value) in
-    c.loop-v.invariant
-    ∙ ap (λ (n : ℕ). flat_map row (range_with_len 0 n)) all
-    ∙ sym (flat_map_grid (λ cell. square_triangles c.args.vertices.now c.args.level cell.0 cell.1) c.args.squares.now.x0 c.args.squares.now.y0 (columns c.args.squares.now) (rows c.args.squares.now))
+    record {
+      value =
+          let row = λ (v : ℕ). flat_map (strip_square c.args.vertices.now c.args.level c.args.squares.now v) (range_with_len 0 (columns c.args.squares.now)) in
+          let all : c.loop-v.v ≡ rows c.args.squares.now = omega (arith, c.rows-v-end.ensures.value) in
+          c.loop-v.invariant
+          ∙ ap (λ (n : ℕ). flat_map row (range_with_len 0 n)) all
+          ∙ sym (flat_map_grid (λ cell. square_triangles c.args.vertices.now c.args.level cell.0 cell.1) c.args.squares.now.x0 c.args.squares.now.y0 (columns c.args.squares.now) (rows c.args.squares.now));
+    }

@@ -5,4 +5,4 @@ use Rattle.mesh_plain.proofs.triangles.square_triangles.Goals as goal
 
 pub returns : goal.returns
 unfolding square_triangles
-returns c = search rules
+returns c = record { value = search rules }

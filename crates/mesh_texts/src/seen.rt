@@ -1,0 +1,195 @@
+//! The text of the parts of a frame that are kept.
+
+ghost use Rattle.std.specs.Prelude.{◌≡◌, ◌+◌, ◌^◌, ◌<◌, ◌++◌, ◌==◌, [], false, IfOk, OnOk, length, map, flat_map, count_by, pos, slice_index_or, if◌then◌else◌};
+ghost use Rattle.std.specs.List.{list_any};
+ghost use Rattle.mesh_model.specs.Conditions.{triangles_of_part as triangles_of};
+ghost use Rattle.mesh_model.specs.Text.{vertex_line, triangle_line};
+ghost use Rattle.mesh_model.specs.Seen.{kept_triangles as kept_of, is_named as is_named_by, named_places as places_named, new_place as place_anew, seen_text as text_of_seen};
+
+use crate::lines::{append_kept, append_triangle, append_vertex};
+use crate::texts::{Head, append_head};
+use clip_regions::Region;
+use itoa::Buffer;
+use mesh_model::{Part, Vertex};
+use obj_frames::NoMemory;
+use std::alloc::{AllocError, Global};
+
+// The triangles of a part.
+fn triangles_of_part<'a>(triangles: &'a [[u32; 3]], part: &Part) -> &'a [[u32; 3]]
+    ensures { result.now ≡ triangles_of triangles.now part.now }
+{
+    let first = (part.first as usize).min(triangles.len());
+    let rest = &triangles[first..];
+    let count = (part.count as usize).min(rest.len());
+    &rest[..count]
+}
+
+// Whether the part at a place is kept; a place past the last flag is not.
+fn is_kept(keep: &[bool], place: usize) -> bool
+    ensures { result ≡ slice_index_or keep.now place false }
+{
+    place < keep.len() && keep[place]
+}
+
+// Adds the triangles of a part where it is kept.
+fn add_part(
+    kept: &mut Vec<[u32; 3]>,
+    triangles: &[[u32; 3]],
+    part: &Part,
+    is_kept: bool,
+) -> Result<(), AllocError>
+    ensures { OnOk result (kept.new.items ≡ kept.old.items ++ (if is_kept then triangles_of triangles.now part.now else [])) }
+{
+    if is_kept {
+        kept.extend_from_slice(triangles_of_part(triangles, part))
+    } else {
+        Ok(())
+    }
+}
+
+// The triangles of the parts that are kept.
+fn kept_triangles(
+    alloc: Global,
+    triangles: &[[u32; 3]],
+    parts: &[Part],
+    keep: &[bool],
+) -> Result<Vec<[u32; 3]>, AllocError>
+    ensures { IfOk result (λ kept. kept.items ≡ kept_of triangles.now parts.now keep.now) }
+{
+    let mut kept = Vec::new(alloc);
+    for (place, part) in parts.iter().enumerate() {
+        add_part(&mut kept, triangles, part, is_kept(keep, place))?;
+    }
+    Ok(kept)
+}
+
+// Whether a triangle has the vertex at a place.
+fn has_corner(triangle: &[u32; 3], place: u32) -> bool
+    ensures { result ≡ list_any (λ corner. corner == place) triangle.now }
+{
+    triangle.contains(&place)
+}
+
+// Whether one of the triangles has the vertex at a place.
+#[tactic(auto, unfolding(mesh_model::specs::Seen::is_named))]
+fn is_named(triangles: &[[u32; 3]], place: u32) -> bool
+    ensures { result ≡ is_named_by triangles.now place }
+{
+    triangles.iter().any(|triangle| has_corner(triangle, place))
+}
+
+// The places below a count that the triangles have, in their order.
+#[tactic(auto, unfolding(mesh_model::specs::Seen::named_places))]
+fn named_places(alloc: Global, triangles: &[[u32; 3]], count: u32) -> Result<Vec<u32>, AllocError>
+    ensures { IfOk result (λ places. places.items ≡ places_named triangles.now count) }
+{
+    (0..count)
+        .filter(|place| is_named(triangles, *place))
+        .collect(alloc)
+}
+
+// A place numbered anew: how many of the places before it the triangles have.
+fn new_place(triangles: &[[u32; 3]], place: u32) -> u32
+    ensures { result ≡ place_anew triangles.now place }
+{
+    let mut named = 0;
+    for earlier in 0..place {
+        if is_named(triangles, earlier) {
+            named += 1;
+        }
+    }
+    named
+}
+
+// A triangle with its places numbered anew.
+fn renumbered(triangles: &[[u32; 3]], triangle: &[u32; 3]) -> [u32; 3]
+    ensures { result ≡ map (place_anew triangles.now) triangle.now }
+{
+    [
+        new_place(triangles, triangle[0]),
+        new_place(triangles, triangle[1]),
+        new_place(triangles, triangle[2]),
+    ]
+}
+
+// The vertex at a place, or the origin where there is none.
+fn vertex_at(vertices: &[Vertex], place: u32) -> Vertex
+    ensures { result ≡ slice_index_or vertices.now place (record { x = pos 0; z = pos 0; height = pos 0 }) }
+{
+    if (place as usize) < vertices.len() {
+        vertices[place as usize]
+    } else {
+        Vertex {
+            x: 0,
+            z: 0,
+            height: 0,
+        }
+    }
+}
+
+// Appends the lines of the vertices at these places.
+fn append_vertices_at(
+    text: &mut Vec<u8>,
+    digits: &mut Buffer,
+    vertices: &[Vertex],
+    places: &[u32],
+) -> Result<(), NoMemory>
+    ensures { OnOk result (text.new.items ≡ text.old.items ++ flat_map (λ place. vertex_line (slice_index_or vertices.now place (record { x = pos 0; z = pos 0; height = pos 0 }))) places.now) }
+{
+    for place in places {
+        append_vertex(text, digits, &vertex_at(vertices, *place))?;
+    }
+    Ok(())
+}
+
+// Appends the lines of triangles whose places are numbered anew.
+fn append_renumbered(
+    text: &mut Vec<u8>,
+    digits: &mut Buffer,
+    triangles: &[[u32; 3]],
+) -> Result<(), NoMemory>
+    ensures { OnOk result (text.new.items ≡ text.old.items ++ flat_map (λ triangle. triangle_line (map (place_anew triangles.now) triangle)) triangles.now) }
+{
+    for triangle in triangles {
+        append_triangle(text, digits, &renumbered(triangles, triangle))?;
+    }
+    Ok(())
+}
+
+// How many flags say that a part is kept.
+fn kept_count(keep: &[bool]) -> usize
+    ensures { result ≡ count_by (λ kept. kept) keep.now }
+{
+    keep.iter().filter(|kept| **kept).count()
+}
+
+/// The text of the parts of a frame that are kept, each with its flag: the head, a line that says how
+/// many of the parts are kept, the triangles of these parts in their order, and only the vertices that
+/// these triangles have, numbered anew.
+pub fn seen_text(
+    alloc: Global,
+    head: &Head,
+    actives: &[Region],
+    vertices: &[Vertex],
+    triangles: &[[u32; 3]],
+    parts: &[Part],
+    keep: &[bool],
+) -> Result<Vec<u8>, NoMemory>
+    requires few { length vertices.now < 2 ^ 31 }
+    ensures value { IfOk result (λ text. text.items ≡ text_of_seen head.now.number head.now.x head.now.y actives.now (record { vertices = vertices.now; triangles = triangles.now; parts = parts.now }) keep.now) }
+{
+    let kept = kept_triangles(alloc, triangles, parts, keep)?;
+    let places = named_places(alloc, kept.as_slice(), vertices.len() as u32)?;
+    let mut text = Vec::new(alloc);
+    let mut digits = Buffer::new();
+    append_head(&mut text, &mut digits, head, actives)?;
+    append_kept(
+        &mut text,
+        &mut digits,
+        kept_count(keep) as u64,
+        parts.len() as u64,
+    )?;
+    append_vertices_at(&mut text, &mut digits, vertices, places.as_slice())?;
+    append_renumbered(&mut text, &mut digits, kept.as_slice())?;
+    Ok(text)
+}

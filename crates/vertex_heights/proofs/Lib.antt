@@ -1,0 +1,4 @@
+pub mod Passing
+pub mod Blends
+pub mod Weights
+pub mod Reaches
