@@ -1,6 +1,2 @@
-pub mod Numbers
-pub mod Shapes
-pub mod Cases
-pub mod Rows
-pub mod Drawn
-pub mod Firsts
+pub mod Ranges
+pub mod Flown

@@ -1,1 +1,3 @@
-pub mod Spans
+pub mod SoundRuns
+pub mod Asked
+pub mod Flights

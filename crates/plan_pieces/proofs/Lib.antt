@@ -1,0 +1,9 @@
+pub mod Numbers
+pub mod Shapes
+pub mod Cases
+pub mod Rows
+pub mod Drawn
+pub mod Near
+pub mod Parts
+pub mod Insides
+pub mod Corners

@@ -1,0 +1,137 @@
+//! Scripts of events with their wanted answers.
+
+ghost use Rattle.std.specs.Prelude.{◌≤◌};
+
+use crate::{PlainAsked, PlainState, are_asked, run};
+use clip_regions::Region;
+use plan_model::{Answer, Event, TileId};
+use std::alloc::{AllocError, Global};
+use std::process::Abort;
+use std::test::Fail;
+
+/// An event of a pass, and the answer that it has, where one is wanted.
+#[derive(Clone, Copy)]
+pub struct Row {
+    pub pass: u8,
+    pub event: Event,
+    pub wanted: Option<Answer>,
+}
+
+/// An event of a pass with its answer.
+pub fn asks(pass: u8, event: Event, answer: Answer) -> Row {
+    Row {
+        pass,
+        event,
+        wanted: Some(answer),
+    }
+}
+
+/// A move.
+pub fn moves(x: i32, y: i32) -> Row {
+    asks(0, Event::Move { x, y }, Answer::Moved)
+}
+
+/// A region from its west, north, east and south.
+pub fn region(x0: i32, y0: i32, x1: i32, y1: i32) -> Region {
+    Region { x0, y0, x1, y1 }
+}
+
+/// A job of a level: its block, its cells and its plan number.
+pub fn job(level: u8, bx: i32, by: i32, cells: Region, plan: u64) -> Answer {
+    Answer::Job {
+        level,
+        bx,
+        by,
+        cells,
+        plan,
+    }
+}
+
+/// A tile of a level that is held by a pass.
+pub fn held(level: u8, tx: u8, ty: u8, pass: u8) -> Answer {
+    let tile = TileId { tx, ty };
+    Answer::Held { level, tile, pass }
+}
+
+/// A tile of a level that is pinned by a frame.
+pub fn busy(level: u8, tx: u8, ty: u8, frame: u64) -> Answer {
+    let tile = TileId { tx, ty };
+    Answer::Busy { level, tile, frame }
+}
+
+/// A script that grows.
+pub struct Script {
+    rows: Vec<Row>,
+}
+
+impl Drop for Script {
+    fn drop(self) {
+        let Script { rows: _ } = self;
+    }
+}
+
+impl Script {
+    /// A script without a row.
+    pub fn new(alloc: Global) -> Script {
+        Script {
+            rows: Vec::new(alloc),
+        }
+    }
+
+    /// Some more rows.
+    pub fn rows(&mut self, rows: &[Row]) -> Result<(), AllocError> {
+        self.rows.extend_from_slice(rows)
+    }
+
+    /// So many pairs of a claim, with any answer, and its finish, which is kept.
+    pub fn pairs(&mut self, pass: u8, count: u8) -> Result<(), AllocError> {
+        for _ in 0..count {
+            self.rows.push(Row {
+                pass,
+                event: Event::Claim,
+                wanted: None,
+            })?;
+            self.rows.push(asks(pass, Event::Finish, Answer::Kept))?;
+        }
+        Ok(())
+    }
+
+    /// A level of this region is filled: so many pairs, and its publication.
+    pub fn fills(&mut self, level: u8, pairs: u8, region: Region) -> Result<(), AllocError> {
+        self.pairs(0, pairs)?;
+        let grown = asks(0, Event::Publish { level }, Answer::Grown { region });
+        self.rows(&[grown])
+    }
+}
+
+fn asked(row: &Row) -> PlainAsked {
+    PlainAsked {
+        pass: row.pass,
+        event: row.event,
+    }
+}
+
+/// Runs a script from the start, and compares the answers.
+pub fn check(rt: &impl Abort, alloc: Global, k: u8, levels: u8, script: &Script) -> Result<(), Fail>
+    requires k_low { 4 ≤ k }
+    requires k_high { k ≤ 8 }
+    requires few { levels ≤ 12 }
+{
+    let rows = script.rows.as_slice();
+    let events: Vec<PlainAsked> = rows.iter().map(|row| asked(row)).collect(alloc)?;
+    assert!(rt; events.len() < 10000 && are_asked(levels, events.as_slice()));
+    let state = PlainState::start(alloc, k, levels)?;
+    let left = run(alloc, state, events.as_slice())?;
+    compare(rt, rows, left.history())
+}
+
+// Compares the answers of a history with the wanted ones.
+fn compare(rt: &impl Abort, rows: &[Row], history: &[plan_model::Entry]) -> Result<(), Fail> {
+    assert_eq!(rt; rows.len(), history.len());
+    for i in 0..rows.len() {
+        if let Some(wanted) = rows[i].wanted {
+            assert_eq!(rt; history[i].answer, wanted, "row {i}");
+        }
+    }
+    Ok(())
+}

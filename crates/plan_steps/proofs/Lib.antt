@@ -1,0 +1,11 @@
+pub mod Ranges
+pub mod Firsts
+pub mod Kept
+pub mod Inside
+pub mod Placed
+pub mod Regions
+pub mod Soundness
+pub mod Lasting
+pub mod Finishes
+pub mod Moved
+pub mod Stepped
