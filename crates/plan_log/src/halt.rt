@@ -1,0 +1,71 @@
+//! Why a play ends before its script does.
+
+ghost use Rattle.std.specs.Prelude.{◌≡◌, ◌⊎◌};
+ghost use Rattle.plan_log.specs.Statuses.{status_of};
+ghost use Rattle.plan_log.specs.declared.halt.Halt.TheVariants.{NoMemory};
+
+use std::alloc::AllocError;
+use std::io;
+use std::io::ErrorKind;
+
+/// Why a play ends before its script does.
+#[derive(Clone, Copy, PartialEq, Eq, Debug)]
+pub(crate) enum Halt {
+    /// The line of this number, counted from 1, can't be read.
+    Line(u64),
+    /// A read of the script failed.
+    ReadFailed,
+    /// A write of the log failed.
+    WriteFailed,
+    /// There was no memory.
+    NoMemory,
+}
+
+// Whether an allocation was refused. What a system call answers for want of memory is a failure of its own.
+fn is_want_of_memory(error: &io::Error) -> bool {
+    error.kind() == ErrorKind::OutOfMemory && error.raw_os_error().is_none()
+}
+
+impl Halt {
+    /// The cause of an error that a read met.
+    pub(crate) fn of_read(error: &io::Error) -> Halt
+        ensures cause { (result ≡ Halt.NoMemory) ⊎ (result ≡ Halt.ReadFailed) }
+    {
+        if is_want_of_memory(error) {
+            Halt::NoMemory
+        } else {
+            Halt::ReadFailed
+        }
+    }
+
+    /// The cause of an error that a write met.
+    pub(crate) fn of_write(error: &io::Error) -> Halt
+        ensures cause { (result ≡ Halt.NoMemory) ⊎ (result ≡ Halt.WriteFailed) }
+    {
+        if is_want_of_memory(error) {
+            Halt::NoMemory
+        } else {
+            Halt::WriteFailed
+        }
+    }
+
+    /// The program's status.
+    pub(crate) fn status(self) -> u8
+        ensures value { result ≡ status_of self }
+    {
+        match self {
+            Halt::Line(_) => 1,
+            Halt::ReadFailed => 3,
+            Halt::WriteFailed => 4,
+            Halt::NoMemory => 5,
+        }
+    }
+}
+
+impl From<AllocError> for Halt {
+    ghost from_gives = { λ _ halt. halt ≡ NoMemory };
+
+    fn from(_error: AllocError) -> Halt {
+        Halt::NoMemory
+    }
+}
