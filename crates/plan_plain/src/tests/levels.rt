@@ -1,6 +1,6 @@
 //! Scripts for two levels.
 
-use crate::tests::scripts::{Script, asks, check, held, job, moves, region};
+use crate::tests::scripts::{Script, asks, at, check, held, job, moves, region};
 use plan_model::{Answer, Event};
 use std::test::Fail;
 
@@ -21,7 +21,7 @@ fn the_coarser_level_first(rt: HostRuntime) -> Result<(), Fail> {
         asks(0, Event::Claim, job(1, -1, -1, region(-6, -6, -1, -1), 0)),
         asks(0, Event::Finish, Answer::Kept),
     ])?;
-    script.pairs(0, 8)?;
+    script.pairs(0, 1, 8)?;
     script.rows(&[
         asks(0, Event::Claim, Answer::Ripe { level: 1 }),
         asks(
@@ -48,7 +48,7 @@ fn a_stale_job_holds_a_coarser_tile(rt: HostRuntime) -> Result<(), Fail> {
         asks(1, Event::Claim, job(1, 0, -1, region(0, -6, 1, -1), 3)),
         asks(1, Event::Finish, Answer::Kept),
     ])?;
-    script.pairs(1, 2)?;
+    script.jobs(1, &[at(1, 0, 0), at(1, 0, 1)])?;
     script.rows(&[asks(
         0,
         Event::Publish { level: 1 },
@@ -56,7 +56,16 @@ fn a_stale_job_holds_a_coarser_tile(rt: HostRuntime) -> Result<(), Fail> {
             region: region(0, -6, 14, 8),
         },
     )])?;
-    script.pairs(1, 5)?;
+    script.jobs(
+        1,
+        &[
+            at(0, 0, -1),
+            at(0, 0, 0),
+            at(0, 0, 1),
+            at(0, 1, 1),
+            at(0, 2, 1),
+        ],
+    )?;
     script.rows(&[
         asks(1, Event::Claim, held(1, 1, 1, 0)),
         asks(0, Event::Finish, Answer::Stale { plan: 2, now: 3 }),

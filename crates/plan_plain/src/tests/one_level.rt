@@ -1,6 +1,6 @@
 //! Scripts for one level.
 
-use crate::tests::scripts::{Script, asks, busy, check, held, job, moves, region};
+use crate::tests::scripts::{Script, asks, at, busy, check, held, job, moves, region};
 use plan_model::{Answer, Event};
 use std::test::Fail;
 
@@ -69,7 +69,7 @@ fn a_window_filled_piece_by_piece(rt: HostRuntime) -> Result<(), Fail> {
     let publish = Event::Publish { level: 0 };
     let mut script = Script::new(rt.alloc());
     script.rows(&[asks(0, publish, Answer::Waiting { pieces: 9 })])?;
-    script.pairs(0, 8)?;
+    script.pairs(0, 0, 8)?;
     script.rows(&[
         asks(0, publish, Answer::Waiting { pieces: 1 }),
         asks(0, Event::Claim, job(0, 1, 1, region(8, 8, 8, 8), 0)),
@@ -114,7 +114,20 @@ fn a_frame_that_leaves_ten_jobs(rt: HostRuntime) -> Result<(), Fail> {
         asks(1, Event::Claim, job(0, 3, -2, region(24, -14, 31, -9), 1)),
         asks(1, Event::Finish, Answer::Kept),
     ])?;
-    script.pairs(1, 9)?;
+    script.jobs(
+        1,
+        &[
+            at(0, 4, -2),
+            at(0, 3, -1),
+            at(0, 4, -1),
+            at(0, 3, 0),
+            at(0, 4, 0),
+            at(0, 3, 1),
+            at(0, 4, 1),
+            at(0, 3, 2),
+            at(0, 4, 2),
+        ],
+    )?;
     script.rows(&[
         asks(1, Event::Claim, busy(0, 2, 2, 0)),
         asks(0, Event::End, Answer::Closed { number: 0 }),

@@ -21,6 +21,13 @@ const FILLED: [Region; 2] = [
     },
 ];
 
+const MOVED: [Region; 1] = [Region {
+    x0: 10,
+    y0: -14,
+    x1: 16,
+    y1: 16,
+}];
+
 const NARROW: [Region; 2] = [
     Region {
         x0: 0,
@@ -45,6 +52,18 @@ fn the_finer_region_lies_inside(rt: HostRuntime) -> Result<(), Fail> {
     let narrow = actives(rt.alloc(), 4, &NARROW)?;
     let wanted = [Region::empty(), region(0, 0, 2, 2)];
     assert_eq!(rt; narrow.as_slice(), wanted.as_slice());
+    Ok(())
+}
+
+#[test]
+fn what_a_move_left_of_a_window(rt: HostRuntime) -> Result<(), Fail> {
+    assert_eq!(rt;
+        window(5, 0, 0, 0).meet(window(5, 0, 25, 1)),
+        region(10, -14, 16, 16)
+    );
+    assert!(rt; are_near(&MOVED));
+    let active = actives(rt.alloc(), 5, &MOVED)?;
+    assert_eq!(rt; active.as_slice(), MOVED.as_slice());
     Ok(())
 }
 

@@ -4,17 +4,36 @@ ghost use Rattle.std.specs.Prelude.{◌≤◌};
 
 use crate::{PlainAsked, PlainState, are_asked, run};
 use clip_regions::Region;
-use plan_model::{Answer, Event, TileId};
+use plan_model::{Answer, Entry, Event, TileId};
 use std::alloc::{AllocError, Global};
 use std::process::Abort;
 use std::test::Fail;
 
-/// An event of a pass, and the answer that it has, where one is wanted.
+/// A level, and the column and the row of a block of it.
+#[derive(Clone, Copy, PartialEq, Eq, Debug)]
+pub struct Place {
+    pub level: u8,
+    pub bx: i32,
+    pub by: i32,
+}
+
+/// What is wanted of an answer.
+#[derive(Clone, Copy)]
+pub enum Wanted {
+    /// This answer.
+    Is(Answer),
+    /// A job at this place.
+    JobAt(Place),
+    /// A job of this level.
+    JobOf(u8),
+}
+
+/// An event of a pass, and what is wanted of its answer.
 #[derive(Clone, Copy)]
 pub struct Row {
     pub pass: u8,
     pub event: Event,
-    pub wanted: Option<Answer>,
+    pub wanted: Wanted,
 }
 
 /// An event of a pass with its answer.
@@ -22,8 +41,13 @@ pub fn asks(pass: u8, event: Event, answer: Answer) -> Row {
     Row {
         pass,
         event,
-        wanted: Some(answer),
+        wanted: Wanted::Is(answer),
     }
+}
+
+/// A place of a level.
+pub fn at(level: u8, bx: i32, by: i32) -> Place {
+    Place { level, bx, by }
 }
 
 /// A move.
@@ -83,22 +107,36 @@ impl Script {
         self.rows.extend_from_slice(rows)
     }
 
-    /// So many pairs of a claim, with any answer, and its finish, which is kept.
-    pub fn pairs(&mut self, pass: u8, count: u8) -> Result<(), AllocError> {
+    // A claim of which this is wanted, and its finish, which is kept.
+    fn pair(&mut self, pass: u8, wanted: Wanted) -> Result<(), AllocError> {
+        self.rows.push(Row {
+            pass,
+            event: Event::Claim,
+            wanted,
+        })?;
+        self.rows.push(asks(pass, Event::Finish, Answer::Kept))?;
+        Ok(())
+    }
+
+    /// So many pairs of a claim that gives a job of a level, and its finish, which is kept.
+    pub fn pairs(&mut self, pass: u8, level: u8, count: u8) -> Result<(), AllocError> {
         for _ in 0..count {
-            self.rows.push(Row {
-                pass,
-                event: Event::Claim,
-                wanted: None,
-            })?;
-            self.rows.push(asks(pass, Event::Finish, Answer::Kept))?;
+            self.pair(pass, Wanted::JobOf(level))?;
         }
         Ok(())
     }
 
-    /// A level of this region is filled: so many pairs, and its publication.
+    /// Pairs of a claim that gives a job at these places in turn, and its finish, which is kept.
+    pub fn jobs(&mut self, pass: u8, places: &[Place]) -> Result<(), AllocError> {
+        for place in places {
+            self.pair(pass, Wanted::JobAt(*place))?;
+        }
+        Ok(())
+    }
+
+    /// A level is filled up to this region: so many pairs, and its publication.
     pub fn fills(&mut self, level: u8, pairs: u8, region: Region) -> Result<(), AllocError> {
-        self.pairs(0, pairs)?;
+        self.pairs(0, level, pairs)?;
         let grown = asks(0, Event::Publish { level }, Answer::Grown { region });
         self.rows(&[grown])
     }
@@ -125,12 +163,26 @@ pub fn check(rt: &impl Abort, alloc: Global, k: u8, levels: u8, script: &Script)
     compare(rt, rows, left.history())
 }
 
-// Compares the answers of a history with the wanted ones.
-fn compare(rt: &impl Abort, rows: &[Row], history: &[plan_model::Entry]) -> Result<(), Fail> {
+// Where the job of an answer is, where it gives one.
+fn place_of(answer: Answer) -> Option<Place> {
+    match answer {
+        Answer::Job { level, bx, by, .. } => Some(at(level, bx, by)),
+        _ => None,
+    }
+}
+
+// Compares the answers of a history with what is wanted of them.
+fn compare(rt: &impl Abort, rows: &[Row], history: &[Entry]) -> Result<(), Fail> {
     assert_eq!(rt; rows.len(), history.len());
     for i in 0..rows.len() {
-        if let Some(wanted) = rows[i].wanted {
-            assert_eq!(rt; history[i].answer, wanted, "row {i}");
+        let answer = history[i].answer;
+        match rows[i].wanted {
+            Wanted::Is(wanted) => assert_eq!(rt; answer, wanted, "row {i}"),
+            Wanted::JobAt(place) => assert_eq!(rt; place_of(answer), Some(place), "row {i}"),
+            Wanted::JobOf(level) => {
+                let found = place_of(answer).map(|place| place.level);
+                assert_eq!(rt; found, Some(level), "row {i}");
+            }
         }
     }
     Ok(())
