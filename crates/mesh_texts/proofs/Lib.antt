@@ -1,3 +1,3 @@
-pub mod Appended
+pub mod Digits
 pub mod Named
 pub mod Products

@@ -1,15 +1,14 @@
 //! The text of the parts of a frame that are kept.
 
-ghost use Rattle.std.specs.Prelude.{◌≡◌, ◌+◌, ◌^◌, ◌<◌, ◌++◌, ◌==◌, [], false, IfOk, OnOk, length, map, flat_map, count_by, pos, slice_index_or, if◌then◌else◌};
+ghost use Rattle.std.specs.Prelude.{◌≡◌, ◌+◌, ◌^◌, ◌<◌, ◌++◌, ◌==◌, [], false, IfOk, OnOk, length, map, flat_map, count_by, pos, string_bytes, slice_index_or, if◌then◌else◌};
 ghost use Rattle.std.specs.List.{list_any};
 ghost use Rattle.mesh_model.specs.Conditions.{triangles_of_part as triangles_of};
 ghost use Rattle.mesh_model.specs.Text.{vertex_line, triangle_line};
 ghost use Rattle.mesh_model.specs.Seen.{kept_triangles as kept_of, is_named as is_named_by, named_places as places_named, new_place as place_anew, seen_text as text_of_seen};
 
-use crate::lines::{append_kept, append_triangle, append_vertex};
-use crate::texts::{Head, append_head};
+use crate::lines::{KeptLine, TriangleLine, VertexLine};
+use crate::texts::{Head, write_head};
 use clip_regions::Region;
-use itoa::Buffer;
 use mesh_model::{Part, Vertex};
 use obj_frames::NoMemory;
 use std::alloc::{AllocError, Global};
@@ -127,31 +126,26 @@ fn vertex_at(vertices: &[Vertex], place: u32) -> Vertex
     }
 }
 
-// Appends the lines of the vertices at these places.
-fn append_vertices_at(
-    text: &mut Vec<u8>,
-    digits: &mut Buffer,
+// Writes the lines of the vertices at these places.
+fn write_vertices_at(
+    text: &mut String,
     vertices: &[Vertex],
     places: &[u32],
-) -> Result<(), NoMemory>
-    ensures { OnOk result (text.new.items ≡ text.old.items ++ flat_map (λ place. vertex_line (slice_index_or vertices.now place (record { x = pos 0; z = pos 0; height = pos 0 }))) places.now) }
+) -> Result<(), AllocError>
+    ensures { OnOk result (string_bytes text.new ≡ string_bytes text.old ++ flat_map (λ place. vertex_line (slice_index_or vertices.now place (record { x = pos 0; z = pos 0; height = pos 0 }))) places.now) }
 {
     for place in places {
-        append_vertex(text, digits, &vertex_at(vertices, *place))?;
+        write!(text, "{}", VertexLine(vertex_at(vertices, *place)))?;
     }
     Ok(())
 }
 
-// Appends the lines of triangles whose places are numbered anew.
-fn append_renumbered(
-    text: &mut Vec<u8>,
-    digits: &mut Buffer,
-    triangles: &[[u32; 3]],
-) -> Result<(), NoMemory>
-    ensures { OnOk result (text.new.items ≡ text.old.items ++ flat_map (λ triangle. triangle_line (map (place_anew triangles.now) triangle)) triangles.now) }
+// Writes the lines of triangles whose places are numbered anew.
+fn write_renumbered(text: &mut String, triangles: &[[u32; 3]]) -> Result<(), AllocError>
+    ensures { OnOk result (string_bytes text.new ≡ string_bytes text.old ++ flat_map (λ triangle. triangle_line (map (place_anew triangles.now) triangle)) triangles.now) }
 {
     for triangle in triangles {
-        append_triangle(text, digits, &renumbered(triangles, triangle))?;
+        write!(text, "{}", TriangleLine(renumbered(triangles, triangle)))?;
     }
     Ok(())
 }
@@ -180,16 +174,14 @@ pub fn seen_text(
 {
     let kept = kept_triangles(alloc, triangles, parts, keep)?;
     let places = named_places(alloc, kept.as_slice(), vertices.len() as u32)?;
-    let mut text = Vec::new(alloc);
-    let mut digits = Buffer::new();
-    append_head(&mut text, &mut digits, head, actives)?;
-    append_kept(
-        &mut text,
-        &mut digits,
-        kept_count(keep) as u64,
-        parts.len() as u64,
-    )?;
-    append_vertices_at(&mut text, &mut digits, vertices, places.as_slice())?;
-    append_renumbered(&mut text, &mut digits, kept.as_slice())?;
-    Ok(text)
+    let line = KeptLine {
+        kept: kept_count(keep),
+        whole: parts.len(),
+    };
+    let mut text = String::new(alloc);
+    write_head(&mut text, head, actives)?;
+    write!(text, "{line}")?;
+    write_vertices_at(&mut text, vertices, places.as_slice())?;
+    write_renumbered(&mut text, kept.as_slice())?;
+    Ok(text.into_bytes())
 }

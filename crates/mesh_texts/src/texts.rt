@@ -1,14 +1,13 @@
 //! The text of a frame.
 
-ghost use Rattle.std.specs.Prelude.{◌≡◌, ◌++◌, [], ◌∷◌, IfOk, OnOk, flat_map};
-ghost use Rattle.mesh_model.specs.Text.{head_text, vertex_line, triangle_line, frame_text as text_of_frame};
+ghost use Rattle.std.specs.Prelude.{◌≡◌, ◌++◌, [], IfOk, OnOk, flat_map, string_bytes};
+ghost use Rattle.mesh_model.specs.Text.{head_text, level_lines, vertex_line, triangle_line, frame_text as text_of_frame};
 
-use crate::lines::{append_frame, append_levels, append_triangle, append_vertex, append_viewer};
+use crate::lines::{FrameLine, LevelLine, TriangleLine, VertexLine, ViewerLine};
 use clip_regions::Region;
-use itoa::Buffer;
 use mesh_model::Vertex;
 use obj_frames::NoMemory;
-use std::alloc::Global;
+use std::alloc::{AllocError, Global};
 
 /// What the head of a frame's text says besides its active regions.
 #[derive(Debug, Clone, Copy, PartialEq, Eq)]
@@ -21,44 +20,51 @@ pub struct Head {
     pub y: i32,
 }
 
-// Appends the lines at the head.
-pub(crate) fn append_head(
-    text: &mut Vec<u8>,
-    digits: &mut Buffer,
-    head: &Head,
-    actives: &[Region],
-) -> Result<(), NoMemory>
-    ensures { OnOk result (text.new.items ≡ text.old.items ++ head_text head.now.number head.now.x head.now.y actives.now) }
+// Writes a line for each level, from the finest.
+fn write_levels(text: &mut String, actives: &[Region]) -> Result<(), AllocError>
+    ensures { OnOk result (string_bytes text.new ≡ string_bytes text.old ++ level_lines 0 actives.now) }
 {
-    append_frame(text, digits, head.number)?;
-    append_viewer(text, digits, head.x, head.y)?;
-    append_levels(text, digits, actives)
-}
-
-// Appends a line for each vertex.
-fn append_vertices(
-    text: &mut Vec<u8>,
-    digits: &mut Buffer,
-    vertices: &[Vertex],
-) -> Result<(), NoMemory>
-    ensures { OnOk result (text.new.items ≡ text.old.items ++ flat_map vertex_line vertices.now) }
-{
-    for vertex in vertices {
-        append_vertex(text, digits, vertex)?;
+    for (level, active) in actives.iter().enumerate() {
+        let line = LevelLine {
+            level,
+            active: *active,
+        };
+        write!(text, "{line}")?;
     }
     Ok(())
 }
 
-// Appends a line for each triangle.
-fn append_triangles(
-    text: &mut Vec<u8>,
-    digits: &mut Buffer,
-    triangles: &[[u32; 3]],
-) -> Result<(), NoMemory>
-    ensures { OnOk result (text.new.items ≡ text.old.items ++ flat_map triangle_line triangles.now) }
+// Writes the lines at the head.
+pub(crate) fn write_head(
+    text: &mut String,
+    head: &Head,
+    actives: &[Region],
+) -> Result<(), AllocError>
+    ensures { OnOk result (string_bytes text.new ≡ string_bytes text.old ++ head_text head.now.number head.now.x head.now.y actives.now) }
+{
+    let Head { number, x, y } = *head;
+    let frame = FrameLine { number };
+    let viewer = ViewerLine { x, y };
+    write!(text, "{frame}{viewer}")?;
+    write_levels(text, actives)
+}
+
+// Writes a line for each vertex.
+fn write_vertices(text: &mut String, vertices: &[Vertex]) -> Result<(), AllocError>
+    ensures { OnOk result (string_bytes text.new ≡ string_bytes text.old ++ flat_map vertex_line vertices.now) }
+{
+    for vertex in vertices {
+        write!(text, "{}", VertexLine(*vertex))?;
+    }
+    Ok(())
+}
+
+// Writes a line for each triangle.
+fn write_triangles(text: &mut String, triangles: &[[u32; 3]]) -> Result<(), AllocError>
+    ensures { OnOk result (string_bytes text.new ≡ string_bytes text.old ++ flat_map triangle_line triangles.now) }
 {
     for triangle in triangles {
-        append_triangle(text, digits, triangle)?;
+        write!(text, "{}", TriangleLine(*triangle))?;
     }
     Ok(())
 }
@@ -76,10 +82,9 @@ pub fn frame_text(
 ) -> Result<Vec<u8>, NoMemory>
     ensures value { IfOk result (λ text. text.items ≡ text_of_frame head.now.number head.now.x head.now.y actives.now (record { vertices = vertices.now; triangles = triangles.now; parts = [] })) }
 {
-    let mut text = Vec::new(alloc);
-    let mut digits = Buffer::new();
-    append_head(&mut text, &mut digits, head, actives)?;
-    append_vertices(&mut text, &mut digits, vertices)?;
-    append_triangles(&mut text, &mut digits, triangles)?;
-    Ok(text)
+    let mut text = String::new(alloc);
+    write_head(&mut text, head, actives)?;
+    write_vertices(&mut text, vertices)?;
+    write_triangles(&mut text, triangles)?;
+    Ok(text.into_bytes())
 }
