@@ -1,5 +1,5 @@
 -- Heights: the terms of the code are those of the definitions.
-use Rattle.std.proofs.Common.{◌≡◌, ℕ, Bool, true, false, if◌then◌else◌, ℤ, pos, neg_ℤ, ◌-ℤ◌, ◌≤ℤ◌, ◌^◌, ◌-◌, ap, ◌∙◌, w32, arith}
+use Rattle.std.proofs.Common.{◌≡◌, ℕ, Bool, true, false, if◌then◌else◌, ℤ, pos, neg_ℤ, ◌-ℤ◌, ◌≤ℤ◌, ◌^◌, ap, ◌∙◌, w32, arith}
 use Rattle.std.specs.Prelude.{int_lt}
 use Rattle.std.specs.Int.{int_min, int_max}
 use Rattle.std.proofs.lemmas.Int.{ints}
@@ -16,10 +16,6 @@ difference_is a b a_low a_high b_low b_high = omega (arith, ints)
 
 pub half_is : {a r : ℤ} → r ≡ floor_div a 2 → (x : ℤ) → a ≡ x → r ≡ floor_div x 2
 half_is e x same = e ∙ ap (λ (z : ℤ). floor_div z 2) same
-
-pub width_is : (k n w : ℕ) → k ≡ n → w ≡ 2 ^ (n - 4) → pos w ≡ pos (blend_width k)
-unfolding blend_width
-width_is k n w e same = rw e (ap pos same)
 
 pub distance_is : (r : Region) (i j d : ℤ) → d ≡ int_min (int_min (i -ℤ r.x0) (r.x1 -ℤ i)) (int_min (j -ℤ r.y0) (r.y1 -ℤ j)) → d ≡ border_distance r i j
 unfolding border_distance

@@ -11,22 +11,7 @@ ghost use Rattle.vertex_heights.specs.Drawn.{IsDrawnCell, own_weight as weight_o
 use crate::places::Cell;
 use clip_regions::{Region, floor_div};
 use height_pyramid::Grid;
-
-/// How many cells of a level's border blend into the coarser level, for windows of side 2^k - 2.
-pub fn blend_width(k: u8) -> i32
-    requires low { 4 ≤ k }
-    requires high { k ≤ 8 }
-    ensures value { result ≡ pos (width_of_blend k) }
-    ensures few { result ≤ℤ pos 16 }
-{
-    match k {
-        4 => 1,
-        5 => 2,
-        6 => 4,
-        7 => 8,
-        _ => 16,
-    }
-}
+use level_frame::blend_width;
 
 /// How far a cell lies inside the region's border.
 pub fn border_distance(region: &Region, cell: &Cell) -> i32

@@ -5,7 +5,8 @@
 mod heights;
 mod places;
 
-pub use heights::{blend_share, blend_width, border_distance, lower_end, upper_end, vertex_height};
+pub use heights::{blend_share, border_distance, lower_end, upper_end, vertex_height};
+pub use level_frame::blend_width;
 pub use places::{Cell, Position, corner_place, place_of, position_of, spacing};
 
 #[cfg(test)]

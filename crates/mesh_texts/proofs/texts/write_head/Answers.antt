@@ -1,5 +1,5 @@
 -- The viewer is read back, and the levels follow the first two lines.
-use Rattle.std.proofs.Common.{◌≡◌, rules, append_assoc, w32}
+use Rattle.std.proofs.Common.{rules, append_assoc, w32}
 use Rattle.std.proofs.lemmas.Result.{IfOk-equal}
 use Rattle.std.proofs.lemmas.Int.{to_z-of_z}
 use Rattle.mesh_model.specs.Text.{head_text}
