@@ -15,6 +15,7 @@ mod stitch_parts;
 mod stitches;
 mod triangles;
 mod vertices;
+mod whole_texts;
 
 pub use bounds::{bounds_of, greatest, least, vertices_of};
 pub use cells::region_cells;
@@ -32,6 +33,7 @@ pub use vertex_heights::{
     position_of, spacing, upper_end, vertex_height,
 };
 pub use vertices::mesh_vertices;
+pub use whole_texts::{kept_text, whole_text};
 
 #[cfg(test)]
 mod mesh_tests;

@@ -2,7 +2,7 @@
 
 ghost use Rattle.std.specs.Prelude.{◌≤◌, length};
 
-use crate::{Head, PlainMesh, are_drawn, few_triangles, few_vertices, frame_text, mesh};
+use crate::{Head, PlainMesh, are_drawn, few_triangles, few_vertices, kept_text, mesh, whole_text};
 use clip_regions::Region;
 use height_pyramid::Grid;
 use mesh_model::{Bounds, PartKind, Vertex};
@@ -155,19 +155,19 @@ fn six_levels_round_a_viewer(rt: HostRuntime) -> Result<(), Fail> {
 
 #[test]
 fn the_text_of_two_whole_windows(rt: HostRuntime) -> Result<(), Fail> {
-    let found = mesh_over(&rt, rt.alloc(), 4, &[WINDOW, WINDOW])?;
     let head = Head {
         number: 0,
         x: 1,
         y: 1,
     };
-    let text = frame_text(
-        rt.alloc(),
-        &head,
-        &[WINDOW, WINDOW],
-        found.vertices(),
-        found.triangles(),
-    )?;
+    let actives = [WINDOW, WINDOW];
+    let terrain = flat(rt.alloc())?;
+    assert!(rt; are_drawn(&actives));
+    let vertices = few_vertices(rt.alloc(), &actives)?;
+    assert!(rt; vertices);
+    let triangles = few_triangles(rt.alloc(), &actives)?;
+    assert!(rt; triangles);
+    let text = whole_text(rt.alloc(), &head, &terrain, 4, &actives)?;
     let start =
         b"# clipmap frame 0\n# viewer 1 1\n# level 0 active -6 -6 8 8\n# level 1 active -6 -6 8 8\nv -6 0.00000 -6\n";
     assert!(rt; text.as_slice().starts_with(start));
@@ -176,6 +176,10 @@ fn the_text_of_two_whole_windows(rt: HostRuntime) -> Result<(), Fail> {
         b"v -12 0.00000 -12".as_slice()
     );
     assert_eq!(rt; line(text.as_slice(), 4 + 386 + 686), b"f 1 2 3".as_slice());
+    let none = kept_text(rt.alloc(), &head, &terrain, 4, &actives, &[false; 9])?;
+    let nothing =
+        b"# clipmap frame 0\n# viewer 1 1\n# level 0 active -6 -6 8 8\n# level 1 active -6 -6 8 8\n# kept 0 of 9\n";
+    assert_eq!(rt; none.as_slice(), nothing.as_slice());
     Ok(())
 }
 

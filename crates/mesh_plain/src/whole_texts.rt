@@ -1,0 +1,66 @@
+//! The text of a whole mesh.
+
+ghost use Rattle.std.specs.Prelude.{◌≡◌, ◌^◌, ◌<◌, ◌≤◌, IfOk, length};
+ghost use Rattle.mesh_model.specs.Mesh.{mesh as mesh_of};
+ghost use Rattle.mesh_model.specs.Text.{frame_text as text_of_frame};
+ghost use Rattle.mesh_model.specs.Seen.{seen_text as text_of_seen};
+ghost use Rattle.mesh_model.specs.Vertices.{listed_vertices};
+ghost use Rattle.mesh_plain.specs.Frames.{AreDrawn};
+
+use crate::meshes::mesh;
+use clip_regions::Region;
+use height_pyramid::Grid;
+use mesh_texts::{Head, frame_text, seen_text};
+use obj_frames::NoMemory;
+use std::alloc::Global;
+
+/// The text of the mesh of a terrain, under the conditions of [`mesh`].
+#[tactic(auto, unfolding(mesh_model::specs::Text::frame_text))]
+pub fn whole_text(
+    alloc: Global,
+    head: &Head,
+    terrain: &Grid,
+    k: u8,
+    actives: &[Region],
+) -> Result<Vec<u8>, NoMemory>
+    requires low { 4 ≤ k }
+    requires high { k ≤ 8 }
+    requires levels { length actives.now ≤ 12 }
+    requires drawn { AreDrawn 0 actives.now }
+    requires few_vertices { length (listed_vertices actives.now) < 2 ^ 31 }
+    requires few_triangles { length (mesh_of terrain.now k actives.now).triangles < 2 ^ 31 }
+    ensures value { IfOk result (λ text. text.items ≡ text_of_frame head.now.number head.now.x head.now.y actives.now (mesh_of terrain.now k actives.now)) }
+{
+    let lists = mesh(alloc, terrain, k, actives)?;
+    frame_text(alloc, head, actives, lists.vertices(), lists.triangles())
+}
+
+/// The text of those parts of the mesh of a terrain whose flag says that they are kept, under the
+/// conditions of [`mesh`].
+pub fn kept_text(
+    alloc: Global,
+    head: &Head,
+    terrain: &Grid,
+    k: u8,
+    actives: &[Region],
+    keep: &[bool],
+) -> Result<Vec<u8>, NoMemory>
+    requires low { 4 ≤ k }
+    requires high { k ≤ 8 }
+    requires levels { length actives.now ≤ 12 }
+    requires drawn { AreDrawn 0 actives.now }
+    requires few_vertices { length (listed_vertices actives.now) < 2 ^ 31 }
+    requires few_triangles { length (mesh_of terrain.now k actives.now).triangles < 2 ^ 31 }
+    ensures value { IfOk result (λ text. text.items ≡ text_of_seen head.now.number head.now.x head.now.y actives.now (mesh_of terrain.now k actives.now) keep.now) }
+{
+    let lists = mesh(alloc, terrain, k, actives)?;
+    seen_text(
+        alloc,
+        head,
+        actives,
+        lists.vertices(),
+        lists.triangles(),
+        lists.parts(),
+        keep,
+    )
+}
