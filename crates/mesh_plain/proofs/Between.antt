@@ -5,7 +5,7 @@ use Rattle.std.proofs.Math.IntN.{pos-*ℤ-pos, negsuc-*ℤ-pos}
 use Rattle.std.proofs.lemmas.Int.{ints}
 use Rattle.clip_regions.specs.declared.region.Region.{Region}
 use Rattle.clip_regions.specs.Regions.{columns, rows}
-use Rattle.vertex_heights.specs.Placed.{IsPlacedAt, ArePlaced, IsSquarePlaced}
+use Rattle.mesh_plain_heights.specs.Placed.{IsPlacedAt, ArePlaced, IsSquarePlaced}
 use Rattle.mesh_plain.specs.Cells.{cell_in}
 use Rattle.mesh_plain.proofs.Gaps.{gap_holds}
 

@@ -8,7 +8,7 @@ use Rattle.clip_regions.specs.declared.region.Region.{Region}
 use Rattle.clip_regions.specs.Regions.{is_empty, columns, rows, cells, numbers_from, IsWithin}
 use Rattle.mesh_model.specs.Parts.{squares_between}
 use Rattle.mesh_plain.specs.Blocks.{HasPlacedCorners}
-use Rattle.vertex_heights.specs.Placed.{IsPlacedAt, ArePlaced}
+use Rattle.mesh_plain_heights.specs.Placed.{IsPlacedAt, ArePlaced}
 use Rattle.mesh_plain.proofs.Gaps.{gap_none}
 use Rattle.mesh_plain.proofs.Grids.{grid}
 

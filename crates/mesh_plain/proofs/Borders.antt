@@ -10,7 +10,7 @@ use Rattle.mesh_model.specs.declared.shapes.Vertex.{Vertex}
 use Rattle.mesh_model.specs.declared.shapes.PartKind.TheVariants.{StitchNorth, StitchEast, StitchSouth, StitchWest}
 use Rattle.mesh_model.specs.Parts.{corner_place, places_in_row, places_in_column, stitch_part, stitch_parts}
 use Rattle.mesh_plain.specs.Blocks.{HasPlacedCorners}
-use Rattle.vertex_heights.specs.Placed.{IsPlacedAt}
+use Rattle.mesh_plain_heights.specs.Placed.{IsPlacedAt}
 use Rattle.mesh_plain.proofs.Between.{placed_between}
 use Rattle.mesh_plain.proofs.Blocks.{ordered}
 use Rattle.mesh_plain.proofs.Gaps.{gap_holds}

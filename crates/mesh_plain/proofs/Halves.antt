@@ -10,7 +10,7 @@ use Rattle.clip_regions.specs.Regions.{is_empty, empty_region, spelled, halve, I
 use Rattle.mesh_model.specs.Vertices.{hole}
 use Rattle.mesh_plain.specs.Blocks.{HasPlacedCorners}
 use Rattle.mesh_plain.specs.Frames.{IsDrawn}
-use Rattle.vertex_heights.specs.Placed.{IsPlacedAt}
+use Rattle.mesh_plain_heights.specs.Placed.{IsPlacedAt}
 use Rattle.mesh_plain.specs.Rings.{IsActive}
 
 -- twice the spacing

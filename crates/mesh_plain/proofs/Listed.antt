@@ -7,7 +7,7 @@ use Rattle.clip_regions.specs.Regions.{contains, cells}
 use Rattle.mesh_model.specs.Vertices.{LevelCell, hole, cells_outside, listed_from}
 use Rattle.std.proofs.lemmas.List.{map-append}
 use Rattle.mesh_plain.proofs.Grids.{map_of_map}
-use Rattle.vertex_heights.specs.declared.places.Cell.{Cell}
+use Rattle.mesh_plain_heights.specs.declared.places.Cell.{Cell}
 use Rattle.mesh_plain.specs.Cells.{named}
 use Rattle.mesh_plain.specs.Rings.{is_outside, level_cell}
 

@@ -8,11 +8,11 @@ use Rattle.clip_regions.specs.declared.region.Region.{Region}
 use Rattle.clip_regions.specs.Regions.{contains, columns, rows, cells, numbers_from, empty_region, IsWithin}
 use Rattle.mesh_model.specs.Height.{active_of}
 use Rattle.mesh_model.specs.Vertices.{LevelCell, hole, cells_outside, listed_from, listed_vertices}
-use Rattle.vertex_heights.specs.declared.places.Cell.{Cell}
-use Rattle.vertex_heights.specs.Placed.{IsPlacedAt}
+use Rattle.mesh_plain_heights.specs.declared.places.Cell.{Cell}
+use Rattle.mesh_plain_heights.specs.Placed.{IsPlacedAt}
 use Rattle.mesh_plain.specs.Rings.{IsActive, level_cell}
 use Rattle.mesh_plain.specs.Frames.{IsDrawn, AreDrawn}
-use Rattle.vertex_heights.specs.Drawn.{IsDrawnCell}
+use Rattle.mesh_plain_heights.specs.Drawn.{IsDrawnCell}
 use Rattle.mesh_plain.proofs.Gaps.{gap_holds}
 use Rattle.mesh_plain.proofs.Between.{placed_between}
 

@@ -1,7 +1,7 @@
 -- Rectangles between four lines of a level.
 use Rattle.std.specs.Prelude.{ℕ}
 use Rattle.clip_regions.specs.declared.region.Region.{Region}
-use Rattle.vertex_heights.specs.Placed.{IsPlacedAt}
+use Rattle.mesh_plain_heights.specs.Placed.{IsPlacedAt}
 
 -- all four corners lie within 2^24 samples of the mosaic's corner
 pub record HasPlacedCorners (level : ℕ) (r : Region) : Type 0 where

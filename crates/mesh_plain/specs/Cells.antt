@@ -1,7 +1,7 @@
 -- The cells of a region with their level.
 use Rattle.std.specs.Prelude.{ℕ, ℤ, pos, ◌+ℤ◌}
 use Rattle.clip_regions.specs.declared.region.Region.{Region}
-use Rattle.vertex_heights.specs.declared.places.Cell.{Cell}
+use Rattle.mesh_plain_heights.specs.declared.places.Cell.{Cell}
 
 -- the cell in column u and row v of a region, counted from its north-west corner
 abbrev pub cell_in : ℕ → Region → ℕ → ℕ → Cell

@@ -1,7 +1,7 @@
 -- Which lists of active regions the plain program draws.
 use Rattle.std.specs.Prelude.{ℕ, ◌+◌, List, [], ◌∷◌}
 use Rattle.clip_regions.specs.declared.region.Region.{Region}
-use Rattle.vertex_heights.specs.Placed.{IsPlacedAt}
+use Rattle.mesh_plain_heights.specs.Placed.{IsPlacedAt}
 use Rattle.mesh_plain.specs.Rings.{IsActive}
 
 -- an active region of a level whose cells lie within 2^24 samples of the mosaic's corner

@@ -3,7 +3,7 @@ use Rattle.std.specs.Prelude.{◌≡◌, ◌^◌, false, not, Bool}
 use Rattle.clip_regions.specs.declared.region.Region.{Region}
 use Rattle.clip_regions.specs.Regions.{contains, is_empty, IsWithin, HasEvenCorners}
 use Rattle.mesh_model.specs.Vertices.{LevelCell}
-use Rattle.vertex_heights.specs.declared.places.Cell.{Cell}
+use Rattle.mesh_plain_heights.specs.declared.places.Cell.{Cell}
 
 -- a region that can be active: near the mosaic's corner, and with even corners where it has a cell
 pub record IsActive (r : Region) : Type 0 where

@@ -6,9 +6,9 @@ ghost use Rattle.clip_regions.specs.Regions.{columns as columns_of, rows as rows
 ghost use Rattle.mesh_plain.specs.Cells.{cell_in, named};
 
 use clip_regions::Region;
+use mesh_plain_heights::Cell;
 use obj_frames::NoMemory;
 use std::alloc::{AllocError, Global};
-use vertex_heights::Cell;
 
 // How many columns a region has.
 pub(crate) fn columns(region: &Region) -> u32

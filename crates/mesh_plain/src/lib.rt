@@ -21,17 +21,17 @@ pub use bounds::{bounds_of, greatest, least, vertices_of};
 pub use cells::region_cells;
 pub use counts::{few_triangles, few_vertices};
 pub use frames::are_drawn;
-pub use mesh_texts::{HalfSpace, Head, frame_text, is_outside, seen_text};
+pub use mesh_plain_heights::{
+    Cell, Position, blend_share, blend_width, border_distance, corner_place, lower_end, place_of,
+    position_of, spacing, upper_end, vertex_height,
+};
+pub use mesh_plain_texts::{HalfSpace, Head, frame_text, is_outside, seen_text};
 pub use meshes::{PlainMesh, listed_parts, mesh, mesh_of_parts, part_at};
 pub use parts::PlainPart;
 pub use region_parts::parts_of_regions;
 pub use rings::{hole, listed_vertices};
 pub use stitches::stitches_along;
 pub use triangles::{block_triangles, square_triangles};
-pub use vertex_heights::{
-    Cell, Position, blend_share, blend_width, border_distance, corner_place, lower_end, place_of,
-    position_of, spacing, upper_end, vertex_height,
-};
 pub use vertices::mesh_vertices;
 pub use whole_texts::{kept_text, whole_text};
 

@@ -8,9 +8,9 @@ ghost use Rattle.mesh_plain.specs.Rings.{IsActive, is_outside, level_cell};
 
 use crate::cells::region_cells;
 use clip_regions::Region;
+use mesh_plain_heights::Cell;
 use obj_frames::NoMemory;
 use std::alloc::{AllocError, Global};
-use vertex_heights::Cell;
 
 /// What a finer active region leaves out of the next coarser one: its half, and nothing where it is empty.
 pub fn hole(finer: &Region) -> Region

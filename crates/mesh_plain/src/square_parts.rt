@@ -6,7 +6,7 @@ ghost use Rattle.mesh_model.specs.Vertices.{hole as hole_of};
 ghost use Rattle.mesh_model.specs.Parts.{square_triangles as triangles_of_square, squares_between, square_part, square_parts};
 ghost use Rattle.mesh_model.specs.declared.shapes.PartKind.TheVariants.{Whole, North, West, East, South};
 ghost use Rattle.mesh_plain.specs.Blocks.{HasPlacedCorners};
-ghost use Rattle.vertex_heights.specs.Placed.{ArePlaced};
+ghost use Rattle.mesh_plain_heights.specs.Placed.{ArePlaced};
 ghost use Rattle.mesh_plain.specs.Rings.{IsActive};
 
 use crate::parts::{PlainPart, push_part};

@@ -11,9 +11,9 @@ use crate::parts::{PlainPart, push_part};
 use crate::stitches::stitches_along;
 use clip_regions::Region;
 use mesh_model::{PartKind, Vertex};
+use mesh_plain_heights::corner_place;
 use obj_frames::NoMemory;
 use std::alloc::{AllocError, Global};
-use vertex_heights::corner_place;
 
 // The place of the vertex at the cell in column u and row v of a region, counted from its corner.
 fn place_in(vertices: &[Vertex], level: u8, active: &Region, v: u32, u: u32) -> u32

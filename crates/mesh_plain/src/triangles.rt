@@ -5,14 +5,14 @@ ghost use Rattle.std.specs.List.{range_with_len};
 ghost use Rattle.clip_regions.specs.Regions.{columns as columns_of, rows as rows_of, cells as cells_of, IsWithin};
 ghost use Rattle.mesh_model.specs.Parts.{square_triangles as triangles_of_square};
 ghost use Rattle.mesh_plain.specs.Strips.{strip_square};
-ghost use Rattle.vertex_heights.specs.Placed.{IsPlacedAt, ArePlaced, IsSquarePlaced};
+ghost use Rattle.mesh_plain_heights.specs.Placed.{IsPlacedAt, ArePlaced, IsSquarePlaced};
 
 use crate::cells::{cell_at, columns, rows};
 use clip_regions::Region;
 use mesh_model::Vertex;
+use mesh_plain_heights::{Cell, corner_place};
 use obj_frames::NoMemory;
 use std::alloc::{AllocError, Global};
-use vertex_heights::{Cell, corner_place};
 
 // The cell east of a cell.
 fn east_of(cell: &Cell) -> Cell

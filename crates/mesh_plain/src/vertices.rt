@@ -3,16 +3,16 @@
 ghost use Rattle.std.specs.Prelude.{◌≡◌, ◌≤◌, IfOk, All, length, map};
 ghost use Rattle.mesh_model.specs.Vertices.{vertex_at as vertex_of_cell, mesh_vertices as vertices_of_mesh};
 ghost use Rattle.mesh_plain.specs.Rings.{level_cell};
-ghost use Rattle.vertex_heights.specs.Drawn.{IsDrawnCell};
+ghost use Rattle.mesh_plain_heights.specs.Drawn.{IsDrawnCell};
 ghost use Rattle.mesh_plain.specs.Frames.{AreDrawn};
 
 use crate::rings::listed_vertices;
 use clip_regions::Region;
 use height_pyramid::Grid;
 use mesh_model::Vertex;
+use mesh_plain_heights::{Cell, position_of, vertex_height};
 use obj_frames::NoMemory;
 use std::alloc::{AllocError, Global};
-use vertex_heights::{Cell, position_of, vertex_height};
 
 // The vertex at a cell.
 fn vertex_at(terrain: &Grid, k: u8, actives: &[Region], cell: &Cell) -> Vertex

@@ -10,7 +10,7 @@ ghost use Rattle.mesh_plain.specs.Frames.{AreDrawn};
 use crate::meshes::mesh;
 use clip_regions::Region;
 use height_pyramid::Grid;
-use mesh_texts::{Head, frame_text, seen_text};
+use mesh_plain_texts::{Head, frame_text, seen_text};
 use obj_frames::NoMemory;
 use std::alloc::Global;
 

@@ -3,7 +3,7 @@ use Rattle.std.specs.Prelude.{length}
 use Rattle.plan_model.specs.Histories.{IsViewed, Run}
 use Rattle.plan_model.specs.declared.events.FlyStep.{FlyStep}
 use Rattle.plan_model.specs.declared.events.FlyStep.TheVariants.{Move as FlyMove, Frame as FlyFrame, Settle}
-use Rattle.plan_steps.specs.Sound.{IsSound}
+use Rattle.plan_plain_steps.specs.Sound.{IsSound}
 
 -- a run's plan numbers and frames are no more than its events
 abbrev pub IsSoundRun : Run → Type 0

@@ -6,14 +6,14 @@ ghost use Rattle.plan_model.specs.States.{from_coarsest};
 ghost use Rattle.plan_model.specs.Steps.{step};
 ghost use Rattle.plan_model.specs.Histories.{then_step};
 ghost use Rattle.plan_model.specs.Rounds.{is_job, claims, finish_of, finishes, ending, is_ripe, publish_of, publishes, round, is_settled, rounds, settle, fly_step, flight};
-ghost use Rattle.plan_steps.specs.Sound.{IsReady, IsTaken};
+ghost use Rattle.plan_plain_steps.specs.Sound.{IsReady, IsTaken};
 ghost use Rattle.plan_plain.specs.SoundRuns.{IsSoundRun, IsFlown};
 ghost use Rattle.plan_plain.specs.Flights.{IsAfter};
 
 use crate::runs::PlainRun;
 use level_frame::torus_side;
 use plan_model::{Answer, Event, FlyStep};
-use plan_steps::PlainState;
+use plan_plain_steps::PlainState;
 use std::alloc::{AllocError, Global};
 
 // The pass that draws the frames of a flight.

@@ -3,12 +3,12 @@
 ghost use Rattle.std.specs.Prelude.{◌≡◌, ℕ, ◌+◌, ◌^◌, ◌<◌, ◌≤◌, ◌↔◌, IsTrue, IfOk, OnOk, OnErr, All, length, fold, take};
 ghost use Rattle.plan_model.specs.Histories.{run, run_from, then_step};
 ghost use Rattle.plan_model.specs.Steps.{step};
-ghost use Rattle.plan_steps.specs.Sound.{IsSound, IsTaken};
+ghost use Rattle.plan_plain_steps.specs.Sound.{IsSound, IsTaken};
 ghost use Rattle.plan_plain.specs.SoundRuns.{IsSoundRun};
 ghost use Rattle.plan_plain.specs.Asked.{asked_of, IsAsked};
 
 use plan_model::{Answer, Entry, Event};
-use plan_steps::{PlainState, is_taken};
+use plan_plain_steps::{PlainState, is_taken};
 use std::alloc::{AllocError, Global};
 use std::marker::Model;
 

@@ -1,6 +1,6 @@
 -- The cells that are added are those of the definition.
 use Rattle.std.proofs.Common.{◌++◌, List, ap, ◌∙◌}
-use Rattle.vertex_heights.specs.declared.places.Cell.{Cell}
+use Rattle.mesh_plain_heights.specs.declared.places.Cell.{Cell}
 use Rattle.mesh_plain.proofs.Listed.{level_more}
 use Rattle.mesh_plain.proofs.rings.add_level.Goals as goal
 

@@ -2,7 +2,7 @@
 use Rattle.std.proofs.Common.{arith, append-nil, sym, ap, ◌∙◌, ◌++◌, List}
 use Rattle.std.specs.List.{filter}
 use Rattle.std.proofs.lemmas.List.{at_drop_all}
-use Rattle.vertex_heights.specs.declared.places.Cell.{Cell}
+use Rattle.mesh_plain_heights.specs.declared.places.Cell.{Cell}
 use Rattle.mesh_plain.specs.Rings.{is_outside}
 use Rattle.mesh_plain.proofs.rings.add_outside.Goals as goal
 

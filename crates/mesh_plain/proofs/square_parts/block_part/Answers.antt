@@ -4,7 +4,7 @@ use Rattle.std.specs.List.{flat_map}
 use Rattle.clip_regions.specs.declared.region.Region.{Region}
 use Rattle.clip_regions.specs.Regions.{cells}
 use Rattle.mesh_model.specs.Parts.{square_part, square_triangles}
-use Rattle.vertex_heights.specs.Placed.{ArePlaced}
+use Rattle.mesh_plain_heights.specs.Placed.{ArePlaced}
 use Rattle.mesh_plain.proofs.Blocks.{squares_placed}
 use Rattle.mesh_plain.proofs.square_parts.block_part.Goals as goal
 

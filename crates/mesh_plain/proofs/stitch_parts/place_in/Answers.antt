@@ -1,7 +1,7 @@
 -- The cell lies in the region.
 use Rattle.std.proofs.Common.{arith, sym, subst}
-use Rattle.vertex_heights.specs.declared.places.Cell.{Cell}
-use Rattle.vertex_heights.specs.Placed.{IsPlacedAt}
+use Rattle.mesh_plain_heights.specs.declared.places.Cell.{Cell}
+use Rattle.mesh_plain_heights.specs.Placed.{IsPlacedAt}
 use Rattle.mesh_plain.proofs.Borders.{column_placed, row_placed, few_columns, few_rows}
 use Rattle.mesh_plain.proofs.stitch_parts.place_in.Goals as goal
 

@@ -1,6 +1,6 @@
 -- Each square lies in the region, and one square more is the row up to the next column.
 use Rattle.std.proofs.Common.{rules, arith, subst, sym, append_assoc}
-use Rattle.vertex_heights.specs.Placed.{IsSquarePlaced}
+use Rattle.mesh_plain_heights.specs.Placed.{IsSquarePlaced}
 use Rattle.mesh_plain.specs.Strips.{strip_square}
 use Rattle.mesh_plain.proofs.Between.{square_placed}
 use Rattle.mesh_plain.proofs.Grids.{rows_more}

@@ -2,9 +2,9 @@
 use Rattle.std.proofs.Common.{List, map, sym, ap, subst, ◌∙◌}
 use Rattle.std.specs.List.{All}
 use Rattle.mesh_model.specs.Vertices.{LevelCell, vertex_at, mesh_vertices}
-use Rattle.vertex_heights.specs.declared.places.Cell.{Cell}
+use Rattle.mesh_plain_heights.specs.declared.places.Cell.{Cell}
 use Rattle.mesh_plain.specs.Rings.{level_cell}
-use Rattle.vertex_heights.specs.Drawn.{IsDrawnCell}
+use Rattle.mesh_plain_heights.specs.Drawn.{IsDrawnCell}
 use Rattle.mesh_plain.proofs.Grids.{map_of_map}
 use Rattle.mesh_plain.proofs.Spread.{all_active, all_drawn}
 use Rattle.mesh_plain.proofs.vertices.mesh_vertices.Goals as goal

@@ -1,0 +1,9 @@
+use Rattle.std.proofs.Common.{◌≡◌, ℤ, pos, ◌+ℤ◌, ap, ◌∙◌, arith}
+use Rattle.std.proofs.lemmas.Int.{ints}
+use Rattle.clip_regions.specs.FloorDivision.{floor_div}
+use Rattle.plan_plain_pieces.proofs.strip_pieces.need_to.Goals as goal
+
+pub returns-clause-value : goal.returns-clause-value
+returns-clause-value c =
+    let quotient : c.floor_div.result ≡ floor_div (c.args.cell +ℤ pos 1) 2 = c.floor_div.ensures.value ∙ ap (λ (v : ℤ). floor_div v 2) (omega (arith, ints)) in
+    omega (arith, ints, quotient, c.floor_div.ensures.below, c.floor_div.ensures.above)

@@ -1,0 +1,66 @@
+//! Any event of a pass.
+
+ghost use Rattle.std.specs.Prelude.{◌≡◌, ℕ, ◌+◌, ◌<◌, ◌≤◌, ◌↔◌, ◌^◌, IsTrue, IfOk, OnOk, OnErr, length};
+ghost use Rattle.plan_model.specs.Histories.{IsViewed};
+ghost use Rattle.plan_model.specs.Steps.{step};
+ghost use Rattle.plan_plain_steps.specs.Sound.{IsReady, IsSound, IsTaken};
+
+use crate::state::PlainState;
+use plan_model::{Answer, Event};
+use std::alloc::{AllocError, Global};
+
+// Whether a coordinate of a viewer is within the limits.
+fn is_viewed(v: i32) -> bool
+    ensures value { IsTrue result ↔ IsViewed v }
+{
+    -4194304 <= v && v <= 4194304
+}
+
+/// Whether a state with this many levels can take the event: a published level is there, and a viewer is
+/// within the limits.
+pub fn is_taken(levels: u8, event: Event) -> bool
+    ensures value { IsTrue result ↔ IsTaken levels event }
+{
+    match event {
+        Event::Move { x, y } => is_viewed(x) && is_viewed(y),
+        Event::Publish { level } => level < levels,
+        Event::Claim | Event::Finish | Event::Begin | Event::End => true,
+    }
+}
+
+impl PlainState {
+    // What an event of a pass answers and changes.
+    fn take(&mut self, alloc: Global, p: u8, event: Event) -> Result<Answer, AllocError>
+        requires sound { IsReady self.old }
+        requires pass { p < 16 }
+        requires taken { IsTaken (length self.old.levels) event }
+        ensures answer { IfOk result (λ answer. answer ≡ (step self.old p event).answer) }
+        ensures state { OnOk result (self.new ≡ (step self.old p event).state) }
+        ensures unchanged { OnErr result (self.new ≡ self.old) }
+    {
+        match event {
+            Event::Move { x, y } => Ok(self.move_to(x, y)),
+            Event::Claim => self.claim(alloc, p),
+            Event::Finish => self.finish(alloc, p),
+            Event::Publish { level } => self.publish(alloc, level),
+            Event::Begin => self.begin(alloc, p),
+            Event::End => Ok(self.end(p)),
+        }
+    }
+
+    /// What an event of pass `p`, 0 to 15, answers and changes. The pass of a move or a publication decides
+    /// nothing. Where memory runs out it fails and changes nothing.
+    pub fn step(&mut self, alloc: Global, p: u8, event: Event) -> Result<Answer, AllocError>
+        requires sound { IsReady self.old }
+        requires pass { p < 16 }
+        requires taken { IsTaken (length self.old.levels) event }
+        ensures answer { IfOk result (λ answer. answer ≡ (step self.old p event).answer) }
+        ensures state { OnOk result (self.new ≡ (step self.old p event).state) }
+        ensures unchanged { OnErr result (self.new ≡ self.old) }
+        ensures sound { (n : ℕ) → IsSound n self.old → IsSound (n + 1) self.new }
+        ensures k { self.new.k ≡ self.old.k }
+        ensures levels { length self.new.levels ≡ length self.old.levels }
+    {
+        self.take(alloc, p, event)
+    }
+}
