@@ -15,7 +15,7 @@ use Rattle.plan_laws.proofs.Cells.{HasCell, has_cell as in_order, not_empty, sam
 use Rattle.plan_laws.proofs.Lists.{first_passes}
 
 -- ---- the strips
-pub four : Region → Region → List Region
+unfoldable pub four : Region → Region → List Region
 four f w = left_of f w ∷ right_of f w ∷ above f w ∷ below f w ∷ []
 
 pub strips_of_some : (f w : Region) → is_empty f ≡ false → strips f w ≡ filter has_cell (four f w)
@@ -111,7 +111,7 @@ pub whole_strip : (f w s : Region) → is_empty f ≡ true → current_strip f w
 unfolding current_strip
 whole_strip f w s e c = some_same (sym (ap first_of (strips_of_none f w e)) ∙ c)
 
-within_itself : (w : Region) → Within w w
+pub within_itself : (w : Region) → Within w w
 within_itself w = record { west = omega (arith, ints); east = omega (arith, ints); north = omega (arith, ints); south = omega (arith, ints) }
 
 grown_none : (f w s : Region) → HasEvenCorners w → HasCell w → is_empty f ≡ true → current_strip f w ≡ Some s → IsEvenPart w (hull f s)
@@ -122,7 +122,7 @@ even_if_some : (f : Region) → is_empty f ≡ false → IsEvenOrEmpty f → Has
 even_if_some f e (inl t) = absurd (true≢false (sym t ∙ e))
 even_if_some f e (inr even) = even
 
-within_if_some : (f w : Region) → is_empty f ≡ false → IsFilledIn f w → Within w f
+pub within_if_some : (f w : Region) → is_empty f ≡ false → IsFilledIn f w → Within w f
 within_if_some f w e (inl t) = absurd (true≢false (sym t ∙ e))
 within_if_some f w e (inr h) = within w f h e
 

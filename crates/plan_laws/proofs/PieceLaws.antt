@@ -37,15 +37,15 @@ all_listed P first last each =
     All-map P (λ (i : ℕ). floor_div first 8 +ℤ pos i) (range_with_len 0 (int_gap (floor_div first 8) (floor_div last 8 +ℤ pos 1))) (All-range (λ (i : ℕ). P (floor_div first 8 +ℤ pos i)) 0 (int_gap (floor_div first 8) (floor_div last 8 +ℤ pos 1)) (λ (i : ℕ) (low : 0 ≤ i) (high : i < 0 + int_gap (floor_div first 8) (floor_div last 8 +ℤ pos 1)). let inside : i < int_gap (floor_div first 8) (floor_div last 8 +ℤ pos 1) = omega arith in let below : (floor_div first 8 +ℤ pos i) <ℤ (floor_div last 8 +ℤ pos 1) = below_gap (floor_div first 8) (floor_div last 8 +ℤ pos 1) i inside in each (floor_div first 8 +ℤ pos i) (record { low = omega (arith, ints); high = omega (arith, ints) })))
 
 -- ---- what is true of each piece
-piece_rows : Region → List Piece
+unfoldable pub piece_rows : Region → List Piece
 piece_rows r = flat_map (λ by. map (λ bx. piece_in r bx by) (block_columns r)) (block_rows r)
 
-pieces_some : (r : Region) → is_empty r ≡ false → pieces r ≡ piece_rows r
+pub pieces_some : (r : Region) → is_empty r ≡ false → pieces r ≡ piece_rows r
 unfolding pieces piece_rows
 pieces_some r e =
     ap (λ (b : Bool). cond b [] (flat_map (λ (by : ℤ). map (λ (bx : ℤ). piece_in r bx by) (block_columns r)) (block_rows r))) e
 
-pieces_none : (r : Region) → is_empty r ≡ true → pieces r ≡ []
+pub pieces_none : (r : Region) → is_empty r ≡ true → pieces r ≡ []
 unfolding pieces
 pieces_none r e =
     ap (λ (b : Bool). cond b [] (flat_map (λ (by : ℤ). map (λ (bx : ℤ). piece_in r bx by) (block_columns r)) (block_rows r))) e

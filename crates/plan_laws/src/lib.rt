@@ -7,10 +7,18 @@
 mod blocks;
 mod growth;
 mod marks;
+mod needs;
+mod sights;
 
 pub use blocks::{
+    finished_and_unfinished_are_all, finished_pieces_are_found, pieces_are_counted,
     pieces_are_meets, pieces_have_cells, pieces_have_different_blocks, pieces_lie_in_blocks,
     pieces_lie_in_the_region, pieces_lie_in_tiles, pieces_of_one_block_are_one,
+    windows_have_few_pieces,
 };
-pub use growth::hulls_are_even_parts;
-pub use marks::tiles_are_met_by_cells;
+pub use growth::{hulls_are_even_parts, strips_are_there_unless_whole, strips_lie_in_windows};
+pub use marks::{tiles_are_met_by_cells, tiles_are_met_by_sides, tiles_met_are_products};
+pub use needs::{
+    needs_are_monotone, needs_have_cells, needs_lie_in_coarser_windows, needs_lie_in_patches,
+};
+pub use sights::actives_lie_in_windows;
