@@ -1,5 +1,5 @@
 -- The laws of active regions.
-use Rattle.std.proofs.Common.{◌≡◌, ℕ, true, false, ◌||◌, ℤ, pos, ◌-ℤ◌, ◌*ℤ◌, List, [], ◌∷◌, refl, ap, sym, ◌∙◌, subst, inl, inr, arith}
+use Rattle.std.proofs.Common.{◌≡◌, ℕ, zero, suc, true, false, ◌||◌, ℤ, pos, ◌-ℤ◌, ◌*ℤ◌, List, [], ◌∷◌, refl, ap, sym, ◌∙◌, subst, inl, inr, arith}
 use Rattle.std.proofs.lemmas.Int.{ints}
 use Rattle.std.proofs.lemmas.Bool.{cases_Bool, cond_both, true≢false}
 use Rattle.std.specs.Int.{int_min, int_max}
@@ -8,7 +8,7 @@ use Rattle.clip_regions.specs.declared.region.Region.{Region}
 use Rattle.clip_regions.specs.FloorDivision.{floor_div, floor_rem}
 use Rattle.clip_regions.specs.Regions.{is_empty, empty_region, spelled, meet, erode, halve, double, holds, HasEvenCorners}
 use Rattle.plan_model.specs.Window.{margin}
-use Rattle.plan_model.specs.Actives.{drawable, inner, active_of, actives_by, actives}
+use Rattle.plan_model.specs.Actives.{drawable, inner, active_of, actives_by, filled_from, actives}
 use Rattle.plan_model.specs.Laws.{IsEvenOrEmpty, AllEvenOrEmpty, EvenActives, AreNested, NestedActives, AllIn, ActivesAreFilled}
 use Rattle.plan_model.proofs.Quotients.{even_from, half_at_least, half_at_most}
 use Rattle.plan_model.proofs.Cells.{HasCell, has_cell, not_empty, spelled_empty, spelled_other, spelled_by, empty_is_empty, holds_empty, Within, holds_within, within, both, meet_is, in_left, in_right, kept_in, meet_in_left, meet_in_right}
@@ -33,9 +33,29 @@ all_in : (e : ℕ) (filled : List Region) → AllIn filled (actives_by e filled)
 all_in e [] = tt
 all_in e (filled ∷ rest) = (active_in e filled (actives_by e rest), all_in e rest)
 
+larger_has_cell : (a b : Region) → Within a b → HasCell b → HasCell a
+larger_has_cell a b w some = record { across = omega (arith, ints); along = omega (arith, ints) }
+
+-- what meets a region without a cell has none
+meet_empty : (b : Region) → is_empty (meet empty_region b) ≡ true
+meet_empty b =
+    subst (λ (q : Region). is_empty q ≡ true) (sym (meet_is empty_region b)) (spelled_by (λ (q : Region). is_empty q ≡ true) (both empty_region b) empty_is_empty (λ (some : HasCell (both empty_region b)). absurd (true≢false (sym empty_is_empty ∙ not_empty empty_region (larger_has_cell empty_region (both empty_region b) (in_left empty_region b) some)))))
+
+-- a level of which nothing is filled shows nothing
+active_of_empty : (e : ℕ) (rest : List Region) → is_empty (active_of e empty_region rest) ≡ true
+active_of_empty e [] = drawable_by (λ (q : Region). is_empty q ≡ true) empty_region empty_is_empty empty_is_empty
+active_of_empty e (coarser ∷ rest) =
+    drawable_by (λ (q : Region). is_empty q ≡ true) (meet empty_region (inner e coarser)) empty_is_empty (meet_empty (inner e coarser))
+
+all_filled : (e finest : ℕ) (filled : List Region) → AllIn filled (actives_by e (filled_from finest filled))
+all_filled e finest [] = tt
+all_filled e zero (filled ∷ rest) = all_in e (filled ∷ rest)
+all_filled e (suc finest) (filled ∷ rest) =
+    (holds_empty filled (active_of e empty_region (actives_by e (filled_from finest rest))) (active_of_empty e (actives_by e (filled_from finest rest))), all_filled e finest rest)
+
 pub actives_are_filled : ActivesAreFilled
 unfolding actives
-actives_are_filled k filled = all_in (margin k) filled
+actives_are_filled k finest filled = all_filled (margin k) finest filled
 
 -- ---- nested by the margin
 doubled : Region → Region
@@ -59,9 +79,6 @@ spelled_same r some =
       | inl e ↦ absurd (true≢false (sym (ap is_empty (spelled_empty r e) ∙ empty_is_empty) ∙ not_empty (spelled r) some))
       | inr e ↦ spelled_other r e
     ]
-
-larger_has_cell : (a b : Region) → Within a b → HasCell b → HasCell a
-larger_has_cell a b w some = record { across = omega (arith, ints); along = omega (arith, ints) }
 
 halves_within : (a b : Region) → Within (doubled a) b → Within a (halved b)
 unfolding doubled halved
@@ -95,7 +112,7 @@ nested_all e (filled ∷ next ∷ rest) =
 
 pub nested_actives : NestedActives
 unfolding actives
-nested_actives k filled = nested_all (margin k) filled
+nested_actives k finest filled = nested_all (margin k) (filled_from finest filled)
 
 -- ---- even corners
 doubled_even : (r : Region) → HasEvenCorners (doubled r)
@@ -144,6 +161,11 @@ all_even : (e : ℕ) (filled : List Region) → AllEvenOrEmpty filled → AllEve
 all_even e [] h = tt
 all_even e (filled ∷ rest) h = (active_even e filled (actives_by e rest) h.0, all_even e rest h.1)
 
+from_even : (finest : ℕ) (filled : List Region) → AllEvenOrEmpty filled → AllEvenOrEmpty (filled_from finest filled)
+from_even finest [] h = tt
+from_even zero (filled ∷ rest) h = h
+from_even (suc finest) (filled ∷ rest) h = (inl empty_is_empty, from_even finest rest h.1)
+
 pub even_actives : EvenActives
 unfolding actives
-even_actives k filled h = all_even (margin k) filled h
+even_actives k finest filled h = all_even (margin k) (filled_from finest filled) (from_even finest filled h)

@@ -3,7 +3,7 @@ use Rattle.std.proofs.Common.{◌≡◌, ℕ, true, false, ◌==◌, length, Opt
 use Rattle.std.proofs.lemmas.Bool.{cond_both, true≢false}
 use Rattle.clip_regions.specs.declared.region.Region.{Region}
 use Rattle.plan_model.specs.Strips.{first_of}
-use Rattle.plan_model.specs.States.{State, OpenFrame, pass_at, level_at, has_work}
+use Rattle.plan_model.specs.States.{State, OpenFrame, pass_at, job_of, frame_of, level_at, has_work}
 use Rattle.plan_model.specs.Claims.{Offer, offers, strip_at, unfinished_pieces}
 use Rattle.plan_model.specs.Steps.{Step, LevelTile, move_step, claimed, claim_step, finished_job, given_back, finish_step, published, publish_step, held_under, actives_at, frame_begun, begin_step, ended, end_step}
 use Rattle.plan_model.specs.Laws.{is_refusal, RefusalsChangeNothing}
@@ -55,9 +55,9 @@ leaves_ended st p (Some frame) = not_refused _
 
 pub refusals_change_nothing : RefusalsChangeNothing
 unfolding move_step finish_step publish_step end_step
-refusals_change_nothing st p (Move x y) = not_refused _
+refusals_change_nothing st p (Move x y a) = not_refused _
 refusals_change_nothing st p Claim = leaves_claim st p
-refusals_change_nothing st p Finish = leaves_given_back st p (pass_at st p).job
+refusals_change_nothing st p Finish = leaves_given_back st p (job_of (pass_at st p))
 refusals_change_nothing st p (Publish l) = leaves_published st l (strip_at st l)
 refusals_change_nothing st p Begin = leaves_begin st p
-refusals_change_nothing st p End = leaves_ended st p (pass_at st p).frame
+refusals_change_nothing st p End = leaves_ended st p (frame_of (pass_at st p))

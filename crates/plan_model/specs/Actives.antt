@@ -1,5 +1,5 @@
 -- The active regions: what is drawn of each level. Each finer one lies inside the coarser one, a margin away from its border.
-use Rattle.std.specs.Prelude.{ℕ, ◌||◌, pos, ◌-ℤ◌, int_lt, List, [], ◌∷◌, if◌then◌else◌}
+use Rattle.std.specs.Prelude.{ℕ, zero, suc, ◌||◌, pos, ◌-ℤ◌, int_lt, List, [], ◌∷◌, if◌then◌else◌}
 use Rattle.clip_regions.specs.declared.region.Region.{Region}
 use Rattle.clip_regions.specs.Regions.{empty_region, meet, erode, double}
 use Rattle.plan_model.specs.Window.{margin}
@@ -25,6 +25,12 @@ actives_by e (filled ∷ coarser) =
     let rest = actives_by e coarser in
     active_of e filled rest ∷ rest
 
--- the active regions of a list of filled regions, the finest first
-unfoldable pub actives : ℕ → List Region → List Region
-actives k filled = actives_by (margin k) filled
+-- the filled regions, the finest first, with the empty one in place of each below the finest level in use
+abbrev pub filled_from : ℕ → List Region → List Region
+filled_from finest [] = []
+filled_from zero (filled ∷ coarser) = filled ∷ coarser
+filled_from (suc finest) (filled ∷ coarser) = empty_region ∷ filled_from finest coarser
+
+-- the active regions of a list of filled regions, the finest first: a level below the finest in use shows nothing
+unfoldable pub actives : ℕ → ℕ → List Region → List Region
+actives k finest filled = actives_by (margin k) (filled_from finest filled)

@@ -61,7 +61,7 @@ AllEvenOrEmpty (r ∷ rest) = IsEvenOrEmpty r × AllEvenOrEmpty rest
 
 -- the active regions of filled regions with even corners have even corners
 abbrev pub EvenActives : Type 0
-EvenActives = (k : ℕ) (filled : List Region) → AllEvenOrEmpty filled → AllEvenOrEmpty (actives k filled)
+EvenActives = (k finest : ℕ) (filled : List Region) → AllEvenOrEmpty filled → AllEvenOrEmpty (actives k finest filled)
 
 -- of a list of regions, the finest first, half of each that isn't empty lies e cells inside the coarser one
 abbrev pub AreNested : ℕ → List Region → Type 0
@@ -72,7 +72,7 @@ AreNested e (finer ∷ coarser ∷ rest) =
 
 -- half of a finer active region lies at least a margin inside the coarser one
 abbrev pub NestedActives : Type 0
-NestedActives = (k : ℕ) (filled : List Region) → AreNested (margin k) (actives k filled)
+NestedActives = (k finest : ℕ) (filled : List Region) → AreNested (margin k) (actives k finest filled)
 
 -- of two lists of regions, each of the second lies in that of the first
 abbrev pub AllIn : List Region → List Region → Type 0
@@ -83,7 +83,7 @@ AllIn (filled ∷ filleds) (active ∷ actives) = IsTrue (holds filled active) �
 
 -- each active region lies in its filled region
 abbrev pub ActivesAreFilled : Type 0
-ActivesAreFilled = (k : ℕ) (filled : List Region) → AllIn filled (actives k filled)
+ActivesAreFilled = (k finest : ℕ) (filled : List Region) → AllIn filled (actives k finest filled)
 
 -- the answer refuses its event
 abbrev pub is_refusal : Answer → Bool

@@ -1,3 +1,4 @@
+pub mod Limits
 pub mod Window
 pub mod Blocks
 pub mod Strips
@@ -8,4 +9,5 @@ pub mod Claims
 pub mod Steps
 pub mod Histories
 pub mod Rounds
+pub mod Sound
 pub mod Laws

@@ -5,7 +5,7 @@ use Rattle.clip_regions.specs.declared.region.Region.{Region}
 use Rattle.clip_regions.specs.Regions.{empty_region}
 use Rattle.plan_model.specs.Blocks.{tile_of, tiles_per_side, same_tile}
 use Rattle.plan_model.specs.Strips.{first_of, pieces}
-use Rattle.plan_model.specs.States.{State, OpenFrame, pass_at}
+use Rattle.plan_model.specs.States.{State, OpenFrame, pass_at, job_of, frame_of}
 use Rattle.plan_model.specs.declared.tiles.TileId.{TileId}
 use Rattle.plan_model.specs.declared.events.JobNote.{JobNote}
 
@@ -24,28 +24,28 @@ tiles_met k r = filter (meets_tile k r) (tiles k)
 
 -- a pass's job holds the tile of a level
 abbrev pub job_holds : ℕ → ℕ → TileId → Option JobNote → Bool
-job_holds k l t None = false
-job_holds k l t (Some job) = (job.level == l) && same_tile (tile_of k job.piece.bx job.piece.by) t
+job_holds k level t None = false
+job_holds k level t (Some job) = (job.level == level) && same_tile (tile_of k job.piece.bx job.piece.by) t
 
 -- the pass that holds the tile of a level
 unfoldable pub holder : State → ℕ → TileId → Option ℕ
-holder st l t = first_of (filter (λ p. job_holds st.k l t (pass_at st p).job) (range_with_len 0 (length st.passes)))
+holder st level t = first_of (filter (λ p. job_holds st.k level t (job_of (pass_at st p))) (range_with_len 0 (length st.passes)))
 
 -- the tile of a level is held
 unfoldable pub is_held : State → ℕ → TileId → Bool
-is_held st l t = is_some (holder st l t)
+is_held st level t = is_some (holder st level t)
 
 abbrev pub IsHeld : State → ℕ → TileId → Type 0
-IsHeld st l t = IsTrue (is_held st l t)
+IsHeld st level t = IsTrue (is_held st level t)
 
 -- the number of a frame whose active region of a level meets the tile, in a list
 abbrev pub pins_of : ℕ → ℕ → TileId → Option OpenFrame → List ℕ
-pins_of k l t None = []
-pins_of k l t (Some frame) = if meets_tile k (slice_index_or frame.regions l empty_region) t then frame.number ∷ [] else []
+pins_of k level t None = []
+pins_of k level t (Some frame) = if meets_tile k (slice_index_or frame.actives level empty_region) t then frame.number ∷ [] else []
 
 -- the numbers of the open frames that pin the tile of a level
 unfoldable pub pinning_frames : State → ℕ → TileId → List ℕ
-pinning_frames st l t = flat_map (λ pass. pins_of st.k l t pass.frame) st.passes
+pinning_frames st level t = flat_map (λ pass. pins_of st.k level t (frame_of pass)) st.passes
 
 -- the lesser of a number and another, where there is another
 abbrev pub lesser : Option ℕ → ℕ → Option ℕ
@@ -54,14 +54,14 @@ lesser (Some m) n = Some (min m n)
 
 -- the least number of a frame that pins the tile of a level
 unfoldable pub pinner : State → ℕ → TileId → Option ℕ
-pinner st l t = fold lesser None (pinning_frames st l t)
+pinner st level t = fold lesser None (pinning_frames st level t)
 
 -- the tile of a level is pinned
 unfoldable pub is_pinned : State → ℕ → TileId → Bool
-is_pinned st l t = is_some (pinner st l t)
+is_pinned st level t = is_some (pinner st level t)
 
 abbrev pub IsPinned : State → ℕ → TileId → Type 0
-IsPinned st l t = IsTrue (is_pinned st l t)
+IsPinned st level t = IsTrue (is_pinned st level t)
 
 -- the frame of that number was begun and hasn't ended
 abbrev pub frame_is : ℕ → Option OpenFrame → Bool
@@ -69,7 +69,7 @@ frame_is n None = false
 frame_is n (Some frame) = frame.number == n
 
 unfoldable pub is_open : State → ℕ → Bool
-is_open st n = list_any (λ pass. frame_is n pass.frame) st.passes
+is_open st n = list_any (λ pass. frame_is n (frame_of pass)) st.passes
 
 abbrev pub IsOpen : State → ℕ → Type 0
 IsOpen st n = IsTrue (is_open st n)

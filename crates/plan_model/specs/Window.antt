@@ -19,7 +19,7 @@ blend_width k = 2 ^ (k - 4)
 unfoldable pub margin : ℕ → ℕ
 margin k = max 2 (blend_width k)
 
--- the centre of a level's window on an axis, for a viewer at v: odd, and v's own cell or the one before or after it
+-- the centre of a level's window on an axis, for a viewer at v: odd, v's own cell or the next, never the one before
 unfoldable pub center : ℕ → ℤ → ℤ
 center level v = pos 2 *ℤ floor_div v (2 ^ (level + 1)) +ℤ pos 1
 

@@ -6,12 +6,14 @@ use clip_regions::Region;
 /// An event of a pass. The pass of a move or a publication decides nothing.
 #[derive(Clone, Copy, PartialEq, Eq, Debug)]
 pub enum Event {
-    /// The viewer moves to sample (`x`, `y`) of the mosaic.
+    /// The viewer moves to sample (`x`, `y`) of the mosaic, at altitude `a`.
     Move {
         /// The viewer's column.
         x: i32,
         /// The viewer's row.
         y: i32,
+        /// The viewer's altitude, 0 to 1048576: it decides which levels are in use.
+        a: u32,
     },
     /// The pass asks for a piece to fill.
     Claim,
@@ -47,9 +49,9 @@ pub enum Answer {
         /// The plan number of the level at the claim.
         plan: u64,
     },
-    /// Every level is whole, so there is nothing to claim.
+    /// Every level in use is whole, so there is nothing to claim.
     Idle,
-    /// All pieces of the current strip of the coarsest level that isn't whole are finished.
+    /// All pieces of the current strip of the coarsest level in use that isn't whole are finished.
     Ripe {
         /// That level.
         level: u8,
@@ -93,7 +95,7 @@ pub enum Answer {
         /// How many.
         pieces: u32,
     },
-    /// The level has no strip.
+    /// The level has no current strip: it is whole, or left out.
     Whole,
     /// A frame was begun.
     Frame {
@@ -131,18 +133,31 @@ pub struct JobNote {
     pub plan: u64,
 }
 
-/// One line of a flight.
+/// What a pass has: nothing, a job or a frame.
+#[derive(Drop)]
+pub enum Work<F> {
+    /// The pass has nothing.
+    Free,
+    /// The pass fills the piece of a job.
+    Fills(JobNote),
+    /// The pass draws a frame.
+    Draws(F),
+}
+
+/// One line of a flight's script.
 #[derive(Clone, Copy, PartialEq, Eq, Debug)]
-pub enum FlyStep {
-    /// The viewer moves to sample (`x`, `y`) of the mosaic.
+pub enum FlyLine {
+    /// The viewer moves to sample (`x`, `y`) of the mosaic, at altitude `a`.
     Move {
         /// The viewer's column.
         x: i32,
         /// The viewer's row.
         y: i32,
+        /// The viewer's altitude, 0 to 1048576: it decides which levels are in use.
+        a: u32,
     },
     /// A frame is begun and one round is flown.
     Frame,
-    /// Rounds are flown until every level is whole.
+    /// Rounds are flown until every level in use is whole.
     Settle,
 }

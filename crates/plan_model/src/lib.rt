@@ -15,7 +15,7 @@ mod windows;
 
 pub use cover::{pieces_cover_the_region, strips_cover_the_window, strips_grow_rectangles};
 pub use drawn::{actives_are_filled, actives_are_nested, actives_have_even_corners};
-pub use events::{Answer, Entry, Event, FlyStep, JobNote};
+pub use events::{Answer, Entry, Event, FlyLine, JobNote, Work};
 pub use refusals::refusals_change_nothing;
 pub use tiles::{Piece, TileId};
 pub use windows::{
