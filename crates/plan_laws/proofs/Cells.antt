@@ -1,5 +1,5 @@
 -- Which cells a region has: what the laws need of the definitions of regions.
-use Rattle.std.proofs.Common.{◌≡◌, Bool, true, false, ◌&&◌, ℤ, ◌≤ℤ◌, ◌<ℤ◌, refl, ap, sym, ◌∙◌, subst, inl, inr, arith}
+use Rattle.std.proofs.Common.{◌≡◌, Bool, true, false, ◌&&◌, ℤ, ◌≤ℤ◌, refl, ap, sym, ◌∙◌, subst, inl, inr, arith}
 use Rattle.std.proofs.lemmas.Int.{ints}
 use Rattle.std.proofs.lemmas.Bool.{and_parts, and_from, or_parts, or_from, or_right, cases_Bool, true≢false, false_from_ne_true}
 use Rattle.std.specs.Int.{int_min, int_max}
@@ -19,12 +19,6 @@ tested_le a b e = omega (arith, ints)
 
 pub le_tested : (a b : ℤ) → a ≤ℤ b → le_z a b ≡ true
 le_tested a b h = grind (arith, ints)
-
-pub tested_lt : (a b : ℤ) → lt_z a b ≡ true → a <ℤ b
-tested_lt a b e = omega (arith, ints)
-
-pub lt_tested : (a b : ℤ) → a <ℤ b → lt_z a b ≡ true
-lt_tested a b h = grind (arith, ints)
 
 pub not_lt_tested : (a b : ℤ) → b ≤ℤ a → lt_z a b ≡ false
 not_lt_tested a b h = grind (arith, ints)

@@ -1,17 +1,18 @@
 -- The law of a filled region that grows: what it becomes with each of the four strips at its sides.
 use Rattle.std.proofs.Common.{◌≡◌, ℕ, Bool, true, false, cond, ℤ, List, [], ◌∷◌, Some, refl, ap, sym, ◌∙◌, subst, inl, inr, arith}
 use Rattle.std.proofs.lemmas.Int.{ints, clamps}
-use Rattle.std.proofs.lemmas.Bool.{cases_Bool, not-true, true≢false}
+use Rattle.std.proofs.lemmas.Bool.{not-true, true≢false}
 use Rattle.std.proofs.lemmas.List.Elements.{All-nil, All-cons}
 use Rattle.std.specs.List.{filter}
 use Rattle.std.specs.Int.{int_min, int_max}
 use Rattle.clip_regions.specs.declared.region.Region.{Region}
-use Rattle.clip_regions.specs.Regions.{is_empty, HasEvenCorners}
+use Rattle.clip_regions.specs.Regions.{is_empty, holds, HasEvenCorners}
 use Rattle.plan_model.specs.Window.{window}
 use Rattle.plan_model.specs.Strips.{first_of, has_cell, left_of, right_of, above, below, strips, current_strip, hull}
-use Rattle.plan_model.specs.Laws.{IsFilledIn, IsEvenOrEmpty, EvenWindows}
-use Rattle.plan_laws.specs.Hulls.{IsEvenPart, HullsAreEvenParts}
-use Rattle.plan_laws.proofs.Cells.{HasCell, has_cell as in_order, not_empty, same_corners, Within, within, holds_within}
+use Rattle.plan_model.specs.Sound.{IsInside, IsEvenInside}
+use Rattle.plan_model.specs.Laws.{IsFilledIn, EvenWindows}
+use Rattle.plan_laws.specs.Hulls.{InsideIsHeld, PartsAreFilledIn, HullsAreEvenInside}
+use Rattle.plan_laws.proofs.Cells.{HasCell, has_cell as in_order, not_empty, same_corners, empty_is_empty, Within, within, holds_within}
 use Rattle.plan_laws.proofs.Lists.{first_passes}
 
 -- ---- the strips
@@ -76,33 +77,42 @@ hull_below f w p some h =
     hull_of_some f (below f w) some h ∙ same_corners _ (rectangle w.x0 f.y0 w.x1 w.y1) (omega (arith, ints, clamps)) (omega (arith, ints, clamps)) (omega (arith, ints, clamps)) (omega (arith, ints, clamps))
 
 -- ---- even parts
-part_from : (w r : Region) → HasCell r → HasEvenCorners r → Within w r → IsEvenPart w r
-part_from w r some even inside = record { cells = not_empty r some; even = even; inside = holds_within w r inside }
+inside_from : (w r : Region) → HasCell r → Within w r → IsInside w r
+inside_from w r some inside = record { west = inside.west; columns = some.across; east = inside.east; north = inside.north; rows = some.along; south = inside.south }
 
-grown_left : (f w : Region) → HasEvenCorners w → HasEvenCorners f → Within w f → HasCell f → HasCell (left_of f w) → IsEvenPart w (hull f (left_of f w))
+pub cell_inside : (w r : Region) → IsInside w r → HasCell r
+cell_inside w r h = record { across = h.columns; along = h.rows }
+
+pub within_inside : (w r : Region) → IsInside w r → Within w r
+within_inside w r h = record { west = h.west; east = h.east; north = h.north; south = h.south }
+
+part_from : (w r : Region) → HasCell r → HasEvenCorners r → Within w r → IsEvenInside w r
+part_from w r some even inside = record { inside = inside_from w r some inside; even = even }
+
+grown_left : (f w : Region) → HasEvenCorners w → HasEvenCorners f → Within w f → HasCell f → HasCell (left_of f w) → IsEvenInside w (hull f (left_of f w))
 unfolding rectangle
 grown_left f w ew ef p some h =
-    subst (IsEvenPart w) (sym (hull_left f w p some h)) (part_from w (rectangle w.x0 f.y0 f.x1 f.y1) (record { across = omega (arith, ints); along = omega (arith, ints) }) (record { x0 = ew.x0; y0 = ef.y0; x1 = ef.x1; y1 = ef.y1 }) (record { west = omega (arith, ints); east = omega (arith, ints); north = omega (arith, ints); south = omega (arith, ints) }))
+    subst (IsEvenInside w) (sym (hull_left f w p some h)) (part_from w (rectangle w.x0 f.y0 f.x1 f.y1) (record { across = omega (arith, ints); along = omega (arith, ints) }) (record { x0 = ew.x0; y0 = ef.y0; x1 = ef.x1; y1 = ef.y1 }) (record { west = omega (arith, ints); east = omega (arith, ints); north = omega (arith, ints); south = omega (arith, ints) }))
 
-grown_right : (f w : Region) → HasEvenCorners w → HasEvenCorners f → Within w f → HasCell f → HasCell (right_of f w) → IsEvenPart w (hull f (right_of f w))
+grown_right : (f w : Region) → HasEvenCorners w → HasEvenCorners f → Within w f → HasCell f → HasCell (right_of f w) → IsEvenInside w (hull f (right_of f w))
 unfolding rectangle
 grown_right f w ew ef p some h =
-    subst (IsEvenPart w) (sym (hull_right f w p some h)) (part_from w (rectangle f.x0 f.y0 w.x1 f.y1) (record { across = omega (arith, ints); along = omega (arith, ints) }) (record { x0 = ef.x0; y0 = ef.y0; x1 = ew.x1; y1 = ef.y1 }) (record { west = omega (arith, ints); east = omega (arith, ints); north = omega (arith, ints); south = omega (arith, ints) }))
+    subst (IsEvenInside w) (sym (hull_right f w p some h)) (part_from w (rectangle f.x0 f.y0 w.x1 f.y1) (record { across = omega (arith, ints); along = omega (arith, ints) }) (record { x0 = ef.x0; y0 = ef.y0; x1 = ew.x1; y1 = ef.y1 }) (record { west = omega (arith, ints); east = omega (arith, ints); north = omega (arith, ints); south = omega (arith, ints) }))
 
-grown_above : (f w : Region) → HasEvenCorners w → HasEvenCorners f → Within w f → HasCell f → HasCell (above f w) → IsEvenPart w (hull f (above f w))
+grown_above : (f w : Region) → HasEvenCorners w → HasEvenCorners f → Within w f → HasCell f → HasCell (above f w) → IsEvenInside w (hull f (above f w))
 unfolding rectangle
 grown_above f w ew ef p some h =
-    subst (IsEvenPart w) (sym (hull_above f w p some h)) (part_from w (rectangle w.x0 w.y0 w.x1 f.y1) (record { across = omega (arith, ints); along = omega (arith, ints) }) (record { x0 = ew.x0; y0 = ew.y0; x1 = ew.x1; y1 = ef.y1 }) (record { west = omega (arith, ints); east = omega (arith, ints); north = omega (arith, ints); south = omega (arith, ints) }))
+    subst (IsEvenInside w) (sym (hull_above f w p some h)) (part_from w (rectangle w.x0 w.y0 w.x1 f.y1) (record { across = omega (arith, ints); along = omega (arith, ints) }) (record { x0 = ew.x0; y0 = ew.y0; x1 = ew.x1; y1 = ef.y1 }) (record { west = omega (arith, ints); east = omega (arith, ints); north = omega (arith, ints); south = omega (arith, ints) }))
 
-grown_below : (f w : Region) → HasEvenCorners w → HasEvenCorners f → Within w f → HasCell f → HasCell (below f w) → IsEvenPart w (hull f (below f w))
+grown_below : (f w : Region) → HasEvenCorners w → HasEvenCorners f → Within w f → HasCell f → HasCell (below f w) → IsEvenInside w (hull f (below f w))
 unfolding rectangle
 grown_below f w ew ef p some h =
-    subst (IsEvenPart w) (sym (hull_below f w p some h)) (part_from w (rectangle w.x0 f.y0 w.x1 w.y1) (record { across = omega (arith, ints); along = omega (arith, ints) }) (record { x0 = ew.x0; y0 = ef.y0; x1 = ew.x1; y1 = ew.y1 }) (record { west = omega (arith, ints); east = omega (arith, ints); north = omega (arith, ints); south = omega (arith, ints) }))
+    subst (IsEvenInside w) (sym (hull_below f w p some h)) (part_from w (rectangle w.x0 f.y0 w.x1 w.y1) (record { across = omega (arith, ints); along = omega (arith, ints) }) (record { x0 = ew.x0; y0 = ef.y0; x1 = ew.x1; y1 = ew.y1 }) (record { west = omega (arith, ints); east = omega (arith, ints); north = omega (arith, ints); south = omega (arith, ints) }))
 
-grown_some : (f w s : Region) → HasEvenCorners w → HasEvenCorners f → Within w f → is_empty f ≡ false → current_strip f w ≡ Some s → IsEvenPart w (hull f s)
+grown_some : (f w s : Region) → HasEvenCorners w → HasEvenCorners f → Within w f → is_empty f ≡ false → current_strip f w ≡ Some s → IsEvenInside w (hull f s)
 grown_some f w s ew ef p e c =
     let some : HasCell f = in_order f e in
-    current_is (λ (r : Region). IsEvenPart w (hull f r)) f w s e c (grown_left f w ew ef p some) (grown_right f w ew ef p some) (grown_above f w ew ef p some) (grown_below f w ew ef p some)
+    current_is (λ (r : Region). IsEvenInside w (hull f r)) f w s e c (grown_left f w ew ef p some) (grown_right f w ew ef p some) (grown_above f w ew ef p some) (grown_below f w ew ef p some)
 
 some_same : {s t : Region} → Some s ≡ Some t → s ≡ t
 some_same e = cc
@@ -114,13 +124,9 @@ whole_strip f w s e c = some_same (sym (ap first_of (strips_of_none f w e)) ∙ 
 pub within_itself : (w : Region) → Within w w
 within_itself w = record { west = omega (arith, ints); east = omega (arith, ints); north = omega (arith, ints); south = omega (arith, ints) }
 
-grown_none : (f w s : Region) → HasEvenCorners w → HasCell w → is_empty f ≡ true → current_strip f w ≡ Some s → IsEvenPart w (hull f s)
+grown_none : (f w s : Region) → HasEvenCorners w → HasCell w → is_empty f ≡ true → current_strip f w ≡ Some s → IsEvenInside w (hull f s)
 grown_none f w s ew some e c =
-    subst (IsEvenPart w) (whole_strip f w s e c ∙ sym (hull_of_none f s e)) (part_from w w some ew (within_itself w))
-
-even_if_some : (f : Region) → is_empty f ≡ false → IsEvenOrEmpty f → HasEvenCorners f
-even_if_some f e (inl t) = absurd (true≢false (sym t ∙ e))
-even_if_some f e (inr even) = even
+    subst (IsEvenInside w) (whole_strip f w s e c ∙ sym (hull_of_none f s e)) (part_from w w some ew (within_itself w))
 
 pub within_if_some : (f w : Region) → is_empty f ≡ false → IsFilledIn f w → Within w f
 within_if_some f w e (inl t) = absurd (true≢false (sym t ∙ e))
@@ -130,10 +136,17 @@ pub window_has_cell : (k level : ℕ) (x y : ℤ) → HasCell (window k level x 
 unfolding window
 window_has_cell k level x y = record { across = omega (arith, ints); along = omega (arith, ints) }
 
-pub hulls_are_even_parts : EvenWindows → HullsAreEvenParts
-hulls_are_even_parts law k level x y f s h even inside c =
-    let w : Region = window k level x y in
-    elim (cases_Bool (is_empty f)) [
-      | inl e ↦ grown_none f (window k level x y) s (law k level x y h) (window_has_cell k level x y) e c
-      | inr e ↦ grown_some f (window k level x y) s (law k level x y h) (even_if_some f e even) (within_if_some f (window k level x y) e inside) e c
-    ]
+pub hulls_are_even_inside : EvenWindows → HullsAreEvenInside
+hulls_are_even_inside law k level x y f s h (inl e) c =
+    grown_none f (window k level x y) s (law k level x y h) (window_has_cell k level x y) (ap is_empty e ∙ empty_is_empty) c
+hulls_are_even_inside law k level x y f s h (inr part) c =
+    grown_some f (window k level x y) s (law k level x y h) part.even (within_inside (window k level x y) f part.inside) (not_empty f (cell_inside (window k level x y) f part.inside)) c
+
+-- ---- parts of a window
+pub inside_is_held : InsideIsHeld
+inside_is_held w r =
+    (λ (h : IsInside w r). (not_empty r (cell_inside w r h), holds_within w r (within_inside w r h)), λ (h : (is_empty r ≡ false) × (holds w r ≡ true)). inside_from w r (in_order r h.0) (within w r h.1 h.0))
+
+pub parts_are_filled_in : PartsAreFilledIn
+parts_are_filled_in w f (inl e) = inl (ap is_empty e ∙ empty_is_empty)
+parts_are_filled_in w f (inr part) = inr (holds_within w f (within_inside w f part.inside))

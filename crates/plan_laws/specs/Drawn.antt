@@ -1,24 +1,19 @@
--- Where active regions lie, as a statement: the contract of a law of this crate.
-use Rattle.std.specs.Prelude.{◌≡◌, ℕ, ◌+◌, true, ◌⊎◌, IsTrue, ℤ, List, [], ◌∷◌}
+-- Where active regions lie, as statements: each is the contract of a law of this crate.
+use Rattle.std.specs.Prelude.{◌≡◌, ℕ, ◌<◌, List, length, slice_index_or}
 use Rattle.clip_regions.specs.declared.region.Region.{Region}
-use Rattle.clip_regions.specs.Regions.{is_empty, holds}
-use Rattle.plan_model.specs.Window.{window}
+use Rattle.clip_regions.specs.Regions.{empty_region}
 use Rattle.plan_model.specs.Actives.{actives}
-use Rattle.plan_model.specs.Histories.{IsViewed}
+use Rattle.plan_model.specs.Sound.{IsShown}
 
--- the region lies in the window of a level for some viewer within the limits
-pub record IsSeen (k level : ℕ) (r : Region) : Type 0 where
-  pub x : ℤ
-  pub y : ℤ
-  pub x_viewed : IsViewed x
-  pub y_viewed : IsViewed y
-  pub inside : IsTrue (holds (window k level x y) r)
+-- there are as many active regions as filled ones
+abbrev pub ActivesAreAsMany : Type 0
+ActivesAreAsMany = (k finest : ℕ) (filled : List Region) → length (actives k finest filled) ≡ length filled
 
--- each region of a list, the first of this level and each next one of the next, is empty or lies in such a window
-abbrev pub AllSeenFrom : ℕ → ℕ → List Region → Type 0
-AllSeenFrom k level [] = Unit {0}
-AllSeenFrom k level (r ∷ rest) = ((is_empty r ≡ true) ⊎ IsSeen k level r) × AllSeenFrom k (level + 1) rest
+-- each region of a list, the finest first, is empty or lies with even corners in a window of its own level
+abbrev pub AreShown : ℕ → List Region → Type 0
+AreShown k regions =
+    (level : ℕ) → level < length regions → IsShown k level (slice_index_or regions level empty_region)
 
--- where each filled region is empty or lies in a window of its level, so is each active region
-abbrev pub ActivesAreSeen : Type 0
-ActivesAreSeen = (k : ℕ) (filled : List Region) → AllSeenFrom k 0 filled → AllSeenFrom k 0 (actives k filled)
+-- where each filled region is so for some viewer within the limits, so is each active region
+abbrev pub ActivesAreShown : Type 0
+ActivesAreShown = (k finest : ℕ) (filled : List Region) → AreShown k filled → AreShown k (actives k finest filled)

@@ -16,9 +16,12 @@ pub use blocks::{
     pieces_lie_in_the_region, pieces_lie_in_tiles, pieces_of_one_block_are_one,
     windows_have_few_pieces,
 };
-pub use growth::{hulls_are_even_parts, strips_are_there_unless_whole, strips_lie_in_windows};
+pub use growth::{
+    hulls_are_even_inside, inside_is_held, parts_are_filled_in, strips_are_there_unless_whole,
+    strips_lie_in_windows,
+};
 pub use marks::{tiles_are_met_by_cells, tiles_are_met_by_sides, tiles_met_are_products};
 pub use needs::{
     needs_are_monotone, needs_have_cells, needs_lie_in_coarser_windows, needs_lie_in_patches,
 };
-pub use sights::actives_lie_in_windows;
+pub use sights::{actives_are_as_many, actives_lie_in_windows};
