@@ -1,5 +1,5 @@
 -- Which cells a region has: what the laws need of the definitions of regions.
-use Rattle.std.proofs.Common.{◌≡◌, Bool, true, false, ◌&&◌, ℤ, ◌≤ℤ◌, refl, ap, sym, ◌∙◌, subst, inl, inr, arith}
+use Rattle.std.proofs.Common.{◌≡◌, Bool, true, false, ◌&&◌, ℤ, ◌≤ℤ◌, ◌<ℤ◌, refl, ap, sym, ◌∙◌, subst, inl, inr, arith}
 use Rattle.std.proofs.lemmas.Int.{ints}
 use Rattle.std.proofs.lemmas.Bool.{and_parts, and_from, or_parts, or_from, or_right, cases_Bool, true≢false, false_from_ne_true}
 use Rattle.std.specs.Int.{int_min, int_max}
@@ -25,6 +25,9 @@ not_lt_tested a b h = grind (arith, ints)
 
 pub tested_not_lt : (a b : ℤ) → lt_z a b ≡ false → b ≤ℤ a
 tested_not_lt a b e = omega (arith, ints)
+
+pub tested_lt : (a b : ℤ) → lt_z a b ≡ true → a <ℤ b
+tested_lt a b e = omega (arith, ints)
 
 -- ---- cells
 -- the cell (i, j) lies in r

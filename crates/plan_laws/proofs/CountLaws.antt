@@ -37,7 +37,7 @@ rows_count : (r : Region) → length (block_rows r) ≡ blocks_between r.y0 r.y1
 unfolding block_rows blocks_between
 rows_count r = length_numbers (floor_div r.y0 8) (int_gap (floor_div r.y0 8) (floor_div r.y1 8 +ℤ pos 1))
 
-count_rows : (r : Region) → length (piece_rows r) ≡ blocks_between r.x0 r.x1 * blocks_between r.y0 r.y1
+pub count_rows : (r : Region) → length (piece_rows r) ≡ blocks_between r.x0 r.x1 * blocks_between r.y0 r.y1
 unfolding piece_rows
 count_rows r =
     length_rows (λ (by : ℤ). map (λ (bx : ℤ). piece_in r bx by) (block_columns r)) (blocks_between r.x0 r.x1) (λ (by : ℤ). length-map (block_columns r) (λ (bx : ℤ). piece_in r bx by) ∙ columns_count r) (block_rows r) ∙ ap (λ (n : ℕ). blocks_between r.x0 r.x1 * n) (rows_count r)

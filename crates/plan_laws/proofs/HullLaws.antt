@@ -48,30 +48,30 @@ hull_of_some f s a b =
     let d : is_empty s ≡ false = not_empty s b in
     rw (e, d) refl
 
-hull_of_none : (f s : Region) → is_empty f ≡ true → hull f s ≡ s
+pub hull_of_none : (f s : Region) → is_empty f ≡ true → hull f s ≡ s
 unfolding hull
 hull_of_none f s e = rw e refl
 
 -- the hull, by the corners that it has
-rectangle : ℤ → ℤ → ℤ → ℤ → Region
+unfoldable pub rectangle : ℤ → ℤ → ℤ → ℤ → Region
 rectangle west north east south = record { x0 = west; y0 = north; x1 = east; y1 = south }
 
-hull_left : (f w : Region) → Within w f → HasCell f → HasCell (left_of f w) → hull f (left_of f w) ≡ rectangle w.x0 f.y0 f.x1 f.y1
+pub hull_left : (f w : Region) → Within w f → HasCell f → HasCell (left_of f w) → hull f (left_of f w) ≡ rectangle w.x0 f.y0 f.x1 f.y1
 unfolding left_of rectangle
 hull_left f w p some h =
     hull_of_some f (left_of f w) some h ∙ same_corners _ (rectangle w.x0 f.y0 f.x1 f.y1) (omega (arith, ints, clamps)) (omega (arith, ints, clamps)) (omega (arith, ints, clamps)) (omega (arith, ints, clamps))
 
-hull_right : (f w : Region) → Within w f → HasCell f → HasCell (right_of f w) → hull f (right_of f w) ≡ rectangle f.x0 f.y0 w.x1 f.y1
+pub hull_right : (f w : Region) → Within w f → HasCell f → HasCell (right_of f w) → hull f (right_of f w) ≡ rectangle f.x0 f.y0 w.x1 f.y1
 unfolding right_of rectangle
 hull_right f w p some h =
     hull_of_some f (right_of f w) some h ∙ same_corners _ (rectangle f.x0 f.y0 w.x1 f.y1) (omega (arith, ints, clamps)) (omega (arith, ints, clamps)) (omega (arith, ints, clamps)) (omega (arith, ints, clamps))
 
-hull_above : (f w : Region) → Within w f → HasCell f → HasCell (above f w) → hull f (above f w) ≡ rectangle w.x0 w.y0 w.x1 f.y1
+pub hull_above : (f w : Region) → Within w f → HasCell f → HasCell (above f w) → hull f (above f w) ≡ rectangle w.x0 w.y0 w.x1 f.y1
 unfolding above rectangle
 hull_above f w p some h =
     hull_of_some f (above f w) some h ∙ same_corners _ (rectangle w.x0 w.y0 w.x1 f.y1) (omega (arith, ints, clamps)) (omega (arith, ints, clamps)) (omega (arith, ints, clamps)) (omega (arith, ints, clamps))
 
-hull_below : (f w : Region) → Within w f → HasCell f → HasCell (below f w) → hull f (below f w) ≡ rectangle w.x0 f.y0 w.x1 w.y1
+pub hull_below : (f w : Region) → Within w f → HasCell f → HasCell (below f w) → hull f (below f w) ≡ rectangle w.x0 f.y0 w.x1 w.y1
 unfolding below rectangle
 hull_below f w p some h =
     hull_of_some f (below f w) some h ∙ same_corners _ (rectangle w.x0 f.y0 w.x1 w.y1) (omega (arith, ints, clamps)) (omega (arith, ints, clamps)) (omega (arith, ints, clamps)) (omega (arith, ints, clamps))
@@ -114,7 +114,7 @@ grown_some f w s ew ef p e c =
     let some : HasCell f = in_order f e in
     current_is (λ (r : Region). IsEvenInside w (hull f r)) f w s e c (grown_left f w ew ef p some) (grown_right f w ew ef p some) (grown_above f w ew ef p some) (grown_below f w ew ef p some)
 
-some_same : {s t : Region} → Some s ≡ Some t → s ≡ t
+pub some_same : {s t : Region} → Some s ≡ Some t → s ≡ t
 some_same e = cc
 
 pub whole_strip : (f w s : Region) → is_empty f ≡ true → current_strip f w ≡ Some s → w ≡ s

@@ -10,3 +10,4 @@ pub mod SideLaws
 pub mod HullLaws
 pub mod StripLaws
 pub mod DrawnLaws
+pub mod AreaLaws

@@ -4,3 +4,4 @@ pub mod Needs
 pub mod Tiles
 pub mod Hulls
 pub mod Drawn
+pub mod Areas

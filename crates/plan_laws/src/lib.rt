@@ -4,12 +4,17 @@
 //! body is empty, or calls the laws from which it follows. `docs/PLAN.md` tells the definitions in prose.
 #![tactic(auto)]
 
+mod areas;
 mod blocks;
 mod growth;
 mod marks;
 mod needs;
 mod sights;
 
+pub use areas::{
+    held_regions_have_no_more_cells, hulls_add_strips, pieces_are_no_more_than_cells,
+    regions_have_pieces, unfilled_cells_are_the_rest,
+};
 pub use blocks::{
     finished_and_unfinished_are_all, finished_pieces_are_found, pieces_are_counted,
     pieces_are_meets, pieces_have_cells, pieces_have_different_blocks, pieces_lie_in_blocks,
