@@ -1,0 +1,4 @@
+pub mod LegalLaws
+pub mod PassLaws
+pub mod PlaceLaws
+pub mod RunLaws

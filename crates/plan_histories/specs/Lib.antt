@@ -1,0 +1,4 @@
+pub mod Legal
+pub mod Parts
+pub mod Places
+pub mod Runs

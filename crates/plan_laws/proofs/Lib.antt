@@ -1,0 +1,13 @@
+pub mod Cells
+pub mod Quotients
+pub mod Lists
+pub mod PieceLaws
+pub mod CountLaws
+pub mod FinishedLaws
+pub mod NeedLaws
+pub mod TileLaws
+pub mod SideLaws
+pub mod HullLaws
+pub mod StripLaws
+pub mod DrawnLaws
+pub mod AreaLaws

@@ -1,0 +1,5 @@
+use Rattle.plan_laws.proofs.PieceLaws.{pieces_in_region}
+use Rattle.plan_laws.proofs.blocks.pieces_lie_in_the_region.Goals as goal
+
+pub returns : goal.returns
+returns c = pieces_in_region

@@ -1,0 +1,5 @@
+use Rattle.plan_laws.proofs.NeedLaws.{needs_in_coarser_windows}
+use Rattle.plan_laws.proofs.needs.needs_lie_in_coarser_windows.Goals as goal
+
+pub returns : goal.returns
+returns c = needs_in_coarser_windows
