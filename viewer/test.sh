@@ -26,6 +26,7 @@ browser=$(command -v chromium || command -v chromium-browser || command -v googl
 work=$(mktemp -d)
 trap 'rm -rf "$work"' EXIT
 mkdir -p "$out"
+rm -f "$out"/*.png
 
 if [ $# -eq 3 ]; then
     tile=$(basename "$1") x=$2 y=$3
@@ -300,15 +301,17 @@ tab.screenshot('flat')
 scale(5)
 
 tab.open(['out-%d.obj' % i for i in reversed(range(10))])
-seen, pictures = [], []
+seen, pictures, marks = [], [], set()
 for i in range(10):
     tab.slide('when', i)
     seen.append(told(tab))
     pictures.append(tab.picture())
+    marks.add(tab.value('marker.hidden ? "" : marker.style.transform'))
 right("the told numbers of a flight of ten frames are the program's",
       seen == [frame_of('out-%d' % i) for i in range(10)], seen)
 seen = [tab.difference(*pair) for pair in zip(pictures, pictures[1:])]
 right('each picture of the flight differs from the next', min(seen) > 0.001, seen)
+right('the mark of the viewer goes with it', len(marks - {''}) == 10, marks)
 points = tab.value('document.querySelector("#plot polyline").points.numberOfItems')
 right('the plot has ten points', points == 10, points)
 tab.screenshot('flight')
