@@ -1,7 +1,9 @@
 -- The laws of the crates below on which the laws of flights stand.
-use Rattle.plan_laws.specs.Areas.{RegionsHavePieces, PiecesAreNoMoreThanCells, HeldHaveNoMoreCells, HullsAddStrips, UnfilledCells}
+use Rattle.plan_laws.specs.Areas.{RegionsHavePieces, PiecesAreNoMoreThanCells, HeldHaveNoMoreCells, HullsAddStrips}
+use Rattle.plan_laws.specs.Areas.{UnfilledCells}
 use Rattle.plan_laws.specs.Finished.{FinishedAndUnfinished}
-use Rattle.plan_laws.specs.Hulls.{InsideIsHeld, PartsAreFilledIn, HullsAreEvenInside, StripsInWindows, StripsUnlessWhole}
+use Rattle.plan_laws.specs.Hulls.{InsideIsHeld, PartsAreFilledIn, HullsAreEvenInside, StripsInWindows}
+use Rattle.plan_laws.specs.Hulls.{StripsUnlessWhole}
 use Rattle.plan_laws.specs.Needs.{NeedsHaveCells, NeedsInCoarserWindows}
 use Rattle.plan_histories.specs.Legal.{LegalWithOneMore, StatesAfterOneMore}
 use Rattle.plan_histories.specs.Parts.{MovesLeaveParts, PublicationsLeaveParts, OthersKeepParts}

@@ -25,12 +25,14 @@ pub record IsFlight (k levels workers : ℕ) (script : List FlyLine) : Type 0 wh
 -- a flight is the run of its events
 abbrev pub FlightsAreRuns : Type 0
 FlightsAreRuns =
-    (k levels workers : ℕ) (script : List FlyLine) → run (start_state k levels) (fly_events k levels workers script) ≡ flight k levels workers script
+    (k levels workers : ℕ) (script : List FlyLine) →
+    run (start_state k levels) (fly_events k levels workers script) ≡ flight k levels workers script
 
 -- that run is legal
 abbrev pub FlightsAreLegal : Type 0
 FlightsAreLegal =
-    (k levels workers : ℕ) (script : List FlyLine) → IsFlight k levels workers script → IsLegalHistory k levels (flight k levels workers script).history
+    (k levels workers : ℕ) (script : List FlyLine) → IsFlight k levels workers script →
+    IsLegalHistory k levels (flight k levels workers script).history
 
 -- a state is at rest: it is sound, each pass has nothing, and no level's strip waits to be published
 pub record IsAtRest (st : State) : Type 0 where
@@ -42,14 +44,17 @@ pub record IsAtRest (st : State) : Type 0 where
 -- every line of a flight leaves a state at rest at rest
 abbrev pub LinesKeepRest : Type 0
 LinesKeepRest =
-    (workers : ℕ) (before : Run) (line : FlyLine) → workers ≤ 15 → IsFlyable line → IsAtRest before.state → IsAtRest (fly_line workers before line).state
+    (workers : ℕ) (before : Run) (line : FlyLine) → workers ≤ 15 → IsFlyable line → IsAtRest before.state →
+    IsAtRest (fly_line workers before line).state
 
 -- a flight ends at rest
 abbrev pub FlightsEndAtRest : Type 0
 FlightsEndAtRest =
-    (k levels workers : ℕ) (script : List FlyLine) → IsFlight k levels workers script → IsAtRest (flight k levels workers script).state
+    (k levels workers : ℕ) (script : List FlyLine) → IsFlight k levels workers script →
+    IsAtRest (flight k levels workers script).state
 
--- a settle from a state at rest, with a worker, ends settled: within as many rounds as there are cells to fill when it starts
+-- with a worker, a settle from a state at rest ends settled, in as many rounds as it finds cells to fill, or fewer
 abbrev pub SettlesEnd : Type 0
 SettlesEnd =
-    (workers : ℕ) (before : Run) → 1 ≤ workers → workers ≤ 15 → IsAtRest before.state → IsTrue (is_settled (settle workers before).state)
+    (workers : ℕ) (before : Run) → 1 ≤ workers → workers ≤ 15 → IsAtRest before.state →
+    IsTrue (is_settled (settle workers before).state)
