@@ -7,6 +7,7 @@ use lib.Signed.{lt_z}
 use Rattle.clip_regions.specs.declared.region.Region.{Region}
 use Rattle.clip_regions.specs.FloorDivision.{floor_div, floor_rem}
 use Rattle.clip_regions.specs.Regions.{is_empty, HasEvenCorners}
+use Rattle.plan_model.specs.Limits.{IsViewed}
 use Rattle.plan_model.specs.Window.{window, center, half_width, IsInReach}
 use Rattle.level_frame.proofs.Numbers.{sum_times, difference_times, doubled_power, power_least}
 
@@ -82,10 +83,6 @@ pub record IsCentered (z v : ℤ) (p : ℕ) : Type 0 where
 
 pub centered_at : (z z' v v' : ℤ) (p : ℕ) → z' ≡ z → v' ≡ v → IsCentered z' v' p → IsCentered z v p
 centered_at z z' v v' p e f h = subst (λ (x : ℤ). IsCentered x v p) e (subst (λ (x : ℤ). IsCentered z' x p) f h)
-
-pub record IsViewed (v : ℤ) : Type 0 where
-  pub low : neg_ℤ (pos 4194304) ≤ℤ v
-  pub high : v ≤ℤ pos 4194304
 
 pub window_in_reach : (k level : ℕ) (x y : ℤ) → half_width k ≤ 127 → 2 ^ level ≤ 2048 → IsViewed x → IsViewed y → IsCentered (center level x) x (2 ^ level) → IsCentered (center level y) y (2 ^ level) → IsInReach level (window k level x y)
 unfolding window

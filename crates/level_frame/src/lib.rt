@@ -5,6 +5,7 @@
 
 ghost use Rattle.std.specs.Prelude.{◌≡◌, ℕ, ◌+◌, ◌*◌, ◌^◌, ◌≤◌, false, ℤ, pos, neg_ℤ, ◌+ℤ◌, ◌-ℤ◌, ◌*ℤ◌, ◌≤ℤ◌};
 ghost use Rattle.clip_regions.specs.Regions.{is_empty, IsPlaced, HasEvenCorners};
+ghost use Rattle.plan_model.specs.Limits.{IsSize, IsViewed};
 ghost use Rattle.plan_model.specs.Window.{window, center, half_width, blend_width, margin, torus_side, IsInReach};
 
 use clip_regions::{Region, floor_div};
@@ -21,8 +22,7 @@ fn power_of_two(power: u8) -> i32
 
 /// The side of a torus in cells: 2^K.
 pub fn torus_side(k: u8) -> i32
-    requires k_low { 4 ≤ k }
-    requires k_high { k ≤ 8 }
+    requires { IsSize k }
     ensures value { result ≡ pos (torus_side k) }
     ensures low { pos 16 ≤ℤ result }
     ensures high { result ≤ℤ pos 256 }
@@ -32,8 +32,7 @@ pub fn torus_side(k: u8) -> i32
 
 /// How many cells a window reaches from its centre, on each side: 2^(K − 1) − 1.
 pub fn half_width(k: u8) -> i32
-    requires k_low { 4 ≤ k }
-    requires k_high { k ≤ 8 }
+    requires { IsSize k }
     ensures value { result ≡ pos (half_width k) }
     ensures low { pos 7 ≤ℤ result }
     ensures high { result ≤ℤ pos 127 }
@@ -43,8 +42,7 @@ pub fn half_width(k: u8) -> i32
 
 /// How many cells of a level's border blend into the coarser level: 2^(K − 4).
 pub fn blend_width(k: u8) -> i32
-    requires k_low { 4 ≤ k }
-    requires k_high { k ≤ 8 }
+    requires { IsSize k }
     ensures value { result ≡ pos (blend_width k) }
     ensures low { pos 1 ≤ℤ result }
     ensures high { result ≤ℤ pos 16 }
@@ -54,8 +52,7 @@ pub fn blend_width(k: u8) -> i32
 
 /// How many coarser cells lie round a finer active region at least: the blend width, but not below 2.
 pub fn margin(k: u8) -> i32
-    requires k_low { 4 ≤ k }
-    requires k_high { k ≤ 8 }
+    requires { IsSize k }
     ensures value { result ≡ pos (margin k) }
     ensures low { pos 2 ≤ℤ result }
     ensures high { result ≤ℤ pos 16 }
@@ -66,8 +63,7 @@ pub fn margin(k: u8) -> i32
 // The centre of a level's window on one axis, for a viewer at `v`: within one spacing of the viewer.
 fn center(level: u8, v: i32) -> i32
     requires level { level ≤ 11 }
-    requires low { neg_ℤ (pos 4194304) ≤ℤ v }
-    requires high { v ≤ℤ pos 4194304 }
+    requires v { IsViewed v }
     ensures value { result ≡ center level v }
     ensures low { neg_ℤ (pos 8388609) ≤ℤ result }
     ensures high { result ≤ℤ pos 8388609 }
@@ -81,13 +77,10 @@ fn center(level: u8, v: i32) -> i32
 ///
 /// Level 0 is the finest. A window has even corners and 2^K − 1 cells a side.
 pub fn window(k: u8, level: u8, x: i32, y: i32) -> Region
-    requires k_low { 4 ≤ k }
-    requires k_high { k ≤ 8 }
+    requires k { IsSize k }
     requires level { level ≤ 11 }
-    requires x_low { neg_ℤ (pos 4194304) ≤ℤ x }
-    requires x_high { x ≤ℤ pos 4194304 }
-    requires y_low { neg_ℤ (pos 4194304) ≤ℤ y }
-    requires y_high { y ≤ℤ pos 4194304 }
+    requires x { IsViewed x }
+    requires y { IsViewed y }
     ensures value { result ≡ window k level x y }
     ensures placed { IsPlaced result }
     ensures even { HasEvenCorners result }

@@ -1,5 +1,5 @@
 -- The drawable part of a region by cases on its sides, and active regions: where they lie, and one more of them.
-use Rattle.std.proofs.Common.{◌≡◌, ℕ, ◌≤◌, true, false, ◌||◌, pos, ◌+ℤ◌, ◌-ℤ◌, List, [], ◌∷◌, arith}
+use Rattle.std.proofs.Common.{◌≡◌, ℕ, zero, suc, ◌≤◌, ◌++◌, length, replicate, drop, refl, ap, true, false, ◌||◌, pos, ◌+ℤ◌, ◌-ℤ◌, List, [], ◌∷◌, arith}
 use Rattle.std.specs.List.{All}
 use Rattle.std.proofs.lemmas.Int.{ints}
 use Rattle.std.proofs.lemmas.Bool.{cond_both}
@@ -7,7 +7,7 @@ use Rattle.std.proofs.lemmas.List.Elements.{All-nil, All-cons, All-head, All-tai
 use lib.Signed.{lt_z}
 use Rattle.clip_regions.specs.declared.region.Region.{Region}
 use Rattle.clip_regions.specs.Regions.{empty_region, meet, erode, IsWithin}
-use Rattle.plan_model.specs.Actives.{drawable, inner, active_of, actives_by}
+use Rattle.plan_model.specs.Actives.{drawable, inner, active_of, actives_by, filled_from}
 use Rattle.plan_plain_pieces.proofs.Rows.{IsOrdered}
 use Rattle.plan_plain_pieces.proofs.Near.{spelled_by, empty_within, meet_within}
 
@@ -63,3 +63,16 @@ pub actives_within : (n e : ℕ) (filled : List Region) → 1 ≤ n → All (IsW
 actives_within n e [] h all = All-nil (IsWithin n)
 actives_within n e (filled ∷ rest) h all =
     All-cons (IsWithin n) (active_of e filled (actives_by e rest)) (actives_by e rest) (active_within n e filled (actives_by e rest) h (All-head (IsWithin n) filled rest all)) (actives_within n e rest h (All-tail (IsWithin n) filled rest all))
+
+-- ---- levels that are left out
+pub filled_from_is : (finest : ℕ) (filled : List Region) → finest ≤ length filled → filled_from finest filled ≡ replicate finest empty_region ++ drop finest filled
+filled_from_is zero [] h = refl
+filled_from_is zero (r ∷ rest) h = refl
+filled_from_is (suc finest) [] h = absurd (omega arith)
+filled_from_is (suc finest) (r ∷ rest) h = ap (λ (rs : List Region). empty_region ∷ rs) (filled_from_is finest rest (omega arith))
+
+pub filled_from_within : (n finest : ℕ) (filled : List Region) → 1 ≤ n → All (IsWithin n) filled → All (IsWithin n) (filled_from finest filled)
+filled_from_within n finest [] h all = All-nil (IsWithin n)
+filled_from_within n zero (r ∷ rest) h all = all
+filled_from_within n (suc finest) (r ∷ rest) h all =
+    All-cons (IsWithin n) empty_region (filled_from finest rest) (empty_within n h) (filled_from_within n finest rest h (All-tail (IsWithin n) r rest all))

@@ -7,7 +7,7 @@ use lib.Signed.{lt_z}
 use Rattle.clip_regions.specs.declared.region.Region.{Region}
 use Rattle.clip_regions.specs.Regions.{is_empty, empty_region}
 use Rattle.plan_model.specs.Strips.{first_of, has_cell, left_of, right_of, above, below, current_strip, hull}
-use Rattle.plan_plain_pieces.specs.Placed.{IsInside, IsFilledPart}
+use Rattle.plan_model.specs.Sound.{IsInside, IsFilledPart}
 use Rattle.plan_plain_pieces.specs.Spans.{span}
 use Rattle.plan_plain_pieces.proofs.Rows.{IsOrdered, ordered}
 use Rattle.plan_plain_pieces.proofs.Cases.{strips_none, strips_around, hull_right, hull_both}

@@ -1,8 +1,9 @@
 //! The active regions: what is drawn of each level.
 
-ghost use Rattle.std.specs.Prelude.{◌≡◌, ◌^◌, ◌≤◌, ◌&&◌, ◌↔◌, IsTrue, pos, neg_ℤ, ◌-ℤ◌, int_lt, int_le, All, IfOk};
-ghost use Rattle.clip_regions.specs.Regions.{IsWithin, IsPlaced};
-ghost use Rattle.plan_model.specs.Actives.{drawable, inner, active_of, actives};
+ghost use Rattle.std.specs.Prelude.{◌≡◌, ◌^◌, ◌<◌, ◌&&◌, ◌↔◌, length, replicate, IsTrue, pos, neg_ℤ, ◌-ℤ◌, int_lt, int_le, All, IfOk};
+ghost use Rattle.clip_regions.specs.Regions.{empty_region, IsWithin, IsPlaced};
+ghost use Rattle.plan_model.specs.Limits.{IsSize};
+ghost use Rattle.plan_model.specs.Actives.{drawable, inner, active_of, actives_by, filled_from, actives};
 ghost use Rattle.plan_model.specs.Window.{margin};
 
 use clip_regions::Region;
@@ -42,8 +43,7 @@ pub fn drawable(region: Region) -> Region
 
 // The cells of a finer level that lie in the coarser active region, a margin of coarser cells inside it.
 fn inner(k: u8, coarser: Region) -> Region
-    requires k_low { 4 ≤ k }
-    requires k_high { k ≤ 8 }
+    requires k { IsSize k }
     requires coarser { IsWithin (2 ^ 24) coarser }
     ensures value { result ≡ inner (margin k) coarser }
     ensures placed { IsPlaced result }
@@ -54,8 +54,7 @@ fn inner(k: u8, coarser: Region) -> Region
 // The active region of a level, of its filled region and the active regions of the coarser levels, the
 // finest first.
 fn active_of(k: u8, filled: Region, coarser: &[Region]) -> Region
-    requires k_low { 4 ≤ k }
-    requires k_high { k ≤ 8 }
+    requires k { IsSize k }
     requires filled { IsWithin (2 ^ 24) filled }
     requires coarser { All (IsWithin (2 ^ 24)) coarser.now }
     ensures value { result ≡ active_of (margin k) filled coarser.now }
@@ -66,13 +65,11 @@ fn active_of(k: u8, filled: Region, coarser: &[Region]) -> Region
     }
 }
 
-/// The active regions of filled regions: what is drawn of each level, the finest first. Each lies in its
-/// filled region, and each finer one a margin inside the coarser one. It fails where memory runs out.
-pub fn actives(alloc: Global, k: u8, filled: &[Region]) -> Result<Vec<Region>, AllocError>
-    requires k_low { 4 ≤ k }
-    requires k_high { k ≤ 8 }
+// The active regions of filled regions, the finest first, where every level is in use.
+fn actives_by(alloc: Global, k: u8, filled: &[Region]) -> Result<Vec<Region>, AllocError>
+    requires k { IsSize k }
     requires filled { All (IsWithin (2 ^ 24)) filled.now }
-    ensures value { IfOk result (λ v. v.items ≡ actives k filled.now) }
+    ensures value { IfOk result (λ v. v.items ≡ actives_by (margin k) filled.now) }
     ensures within { IfOk result (λ v. All (IsWithin (2 ^ 24)) v.items) }
 {
     let mut out = Vec::new(alloc);
@@ -81,6 +78,50 @@ pub fn actives(alloc: Global, k: u8, filled: &[Region]) -> Result<Vec<Region>, A
         out.insert(0, region)?;
     }
     Ok(out)
+}
+
+// Empty regions.
+#[tactic(auto, using(std::proofs::lemmas::List::replicate_more))]
+fn empties(alloc: Global, count: u8) -> Result<Vec<Region>, AllocError>
+    ensures value { IfOk result (λ v. v.items ≡ replicate count empty_region) }
+{
+    let mut out = Vec::new(alloc);
+    'made: for _ in 0..count {
+        out.push(Region::empty())?;
+    }
+    Ok(out)
+}
+
+// The filled regions with the empty one in the place of each below the finest level in use.
+fn filled_from(alloc: Global, finest: u8, filled: &[Region]) -> Result<Vec<Region>, AllocError>
+    requires finest { finest < length filled.now }
+    requires filled { All (IsWithin (2 ^ 24)) filled.now }
+    ensures value { IfOk result (λ v. v.items ≡ filled_from finest filled.now) }
+    ensures within { IfOk result (λ v. All (IsWithin (2 ^ 24)) v.items) }
+{
+    let mut out = empties(alloc, finest)?;
+    out.extend_from_slice(&filled[finest as usize..])?;
+    Ok(out)
+}
+
+/// The active regions of filled regions, the finest first, for the finest level in use: what is drawn of
+/// each level. Each lies in its filled region, each finer one a margin inside the coarser one, and a level
+/// below the finest in use shows nothing. It fails where memory runs out.
+#[tactic(auto, unfolding(plan_model::specs::Actives::actives))]
+pub fn actives(
+    alloc: Global,
+    k: u8,
+    finest: u8,
+    filled: &[Region],
+) -> Result<Vec<Region>, AllocError>
+    requires k { IsSize k }
+    requires finest { finest < length filled.now }
+    requires filled { All (IsWithin (2 ^ 24)) filled.now }
+    ensures value { IfOk result (λ v. v.items ≡ actives k finest filled.now) }
+    ensures within { IfOk result (λ v. All (IsWithin (2 ^ 24)) v.items) }
+{
+    let used = filled_from(alloc, finest, filled)?;
+    actives_by(alloc, k, used.as_slice())
 }
 
 // Whether a number is no farther from zero than 2^24.

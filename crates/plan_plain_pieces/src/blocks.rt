@@ -3,9 +3,11 @@
 ghost use Rattle.std.specs.Prelude.{◌≡◌, ◌^◌, ◌≤◌, pos, neg_ℤ, ◌≤ℤ◌};
 ghost use Rattle.clip_regions.specs.FloorDivision.{floor_rem};
 ghost use Rattle.clip_regions.specs.Regions.{IsPlaced};
-ghost use Rattle.plan_model.specs.Blocks.{block_cells, tiles_per_side, tile_of, same_number, same_tile, same_block};
+ghost use Rattle.plan_model.specs.Limits.{IsSize};
+ghost use Rattle.plan_model.specs.Window.{torus_side};
+ghost use Rattle.plan_model.specs.Blocks.{block_of, block_cells, wrapped_place, tile_of_cell, tiles_per_side, tile_of, same_number, same_tile, same_block};
 
-use clip_regions::{Region, wrap};
+use clip_regions::{Region, floor_div, wrap};
 use level_frame::torus_side;
 use plan_model::{Piece, TileId};
 
@@ -26,10 +28,46 @@ pub fn block_cells(bx: i32, by: i32) -> Region
     }
 }
 
+/// The block of the cell in column `i` and row `j`, as its column and row among the blocks.
+#[tactic(auto, unfolding(plan_model::specs::Blocks::block_of))]
+pub fn block_of(i: i32, j: i32) -> (i32, i32)
+    ensures value { result ≡ block_of i j }
+{
+    (floor_div(i, 8), floor_div(j, 8))
+}
+
+// The place of a cell's column or row in a torus.
+fn place_of(k: u8, cell: i32) -> u8
+    requires { IsSize k }
+    ensures value { result ≡ floor_rem cell (torus_side k) }
+{
+    wrap(cell, torus_side(k)) as u8
+}
+
+/// The place of the cell in column `i` and row `j` in the torus.
+#[tactic(auto, unfolding(plan_model::specs::Blocks::wrapped_place))]
+pub fn wrapped_place(k: u8, i: i32, j: i32) -> (u8, u8)
+    requires { IsSize k }
+    ensures value { result ≡ wrapped_place k i j }
+{
+    (place_of(k, i), place_of(k, j))
+}
+
+/// The torus tile of the cell in column `i` and row `j`.
+#[tactic(auto, unfolding(plan_model::specs::Blocks::tile_of_cell))]
+pub fn tile_of_cell(k: u8, i: i32, j: i32) -> TileId
+    requires { IsSize k }
+    ensures value { result ≡ tile_of_cell k i j }
+{
+    TileId {
+        tx: place_of(k, i) / 8,
+        ty: place_of(k, j) / 8,
+    }
+}
+
 /// How many tiles a torus has on each side: 2^K / 8.
 pub fn tiles_per_side(k: u8) -> u8
-    requires k_low { 4 ≤ k }
-    requires k_high { k ≤ 8 }
+    requires { IsSize k }
     ensures value { result ≡ tiles_per_side k }
     ensures low { 2 ≤ result }
     ensures high { result ≤ 32 }
@@ -39,8 +77,7 @@ pub fn tiles_per_side(k: u8) -> u8
 
 // The place of a block's column or row among the tiles of a torus.
 fn tile_place(k: u8, b: i32) -> u8
-    requires k_low { 4 ≤ k }
-    requires k_high { k ≤ 8 }
+    requires { IsSize k }
     ensures value { result ≡ floor_rem b (tiles_per_side k) }
 {
     wrap(b, i32::from(tiles_per_side(k))) as u8
@@ -48,8 +85,7 @@ fn tile_place(k: u8, b: i32) -> u8
 
 /// The torus tile of the block in column `bx` and row `by`.
 pub fn tile_of(k: u8, bx: i32, by: i32) -> TileId
-    requires k_low { 4 ≤ k }
-    requires k_high { k ≤ 8 }
+    requires { IsSize k }
     ensures value { result ≡ tile_of k bx by }
 {
     let tx = tile_place(k, bx);

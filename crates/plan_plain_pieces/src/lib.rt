@@ -15,7 +15,10 @@ mod window_strips;
 mod worked;
 
 pub use active_regions::{actives, are_near, drawable};
-pub use blocks::{block_cells, same_block, same_tile, tile_of, tiles_per_side};
+pub use blocks::{
+    block_cells, block_of, same_block, same_tile, tile_of, tile_of_cell, tiles_per_side,
+    wrapped_place,
+};
 pub use finished::{finished_with, is_finished, unfinished_of};
 pub use strip_pieces::{need, pieces};
 pub use torus_tiles::{lies_in, meets_tile, tiles, tiles_met};

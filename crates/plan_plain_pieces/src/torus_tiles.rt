@@ -3,6 +3,7 @@
 ghost use Rattle.std.specs.Prelude.{◌≡◌, ◌^◌, ◌≤◌, ◌++◌, map, filter, IfOk};
 ghost use Rattle.std.specs.List.{range_with_len, list_any};
 ghost use Rattle.clip_regions.specs.Regions.{IsWithin};
+ghost use Rattle.plan_model.specs.Limits.{IsSize};
 ghost use Rattle.plan_model.specs.Blocks.{tile_of, same_tile};
 ghost use Rattle.plan_model.specs.Tiles.{tiles, meets_tile, tiles_met};
 
@@ -24,8 +25,7 @@ fn push_row(out: &mut Vec<TileId>, side: u8, ty: u8) -> Result<(), AllocError>
 
 /// The tiles of a torus: by row, then by column. It fails where memory runs out.
 pub fn tiles(alloc: Global, k: u8) -> Result<Vec<TileId>, AllocError>
-    requires k_low { 4 ≤ k }
-    requires k_high { k ≤ 8 }
+    requires { IsSize k }
     ensures value { IfOk result (λ v. v.items ≡ tiles k) }
 {
     let side = tiles_per_side(k);
@@ -38,8 +38,7 @@ pub fn tiles(alloc: Global, k: u8) -> Result<Vec<TileId>, AllocError>
 
 /// Whether a piece's block is kept in the tile.
 pub fn lies_in(k: u8, piece: Piece, t: TileId) -> bool
-    requires k_low { 4 ≤ k }
-    requires k_high { k ≤ 8 }
+    requires { IsSize k }
     ensures value { result ≡ same_tile (tile_of k piece.bx piece.by) t }
 {
     same_tile(tile_of(k, piece.bx, piece.by), t)
@@ -47,8 +46,7 @@ pub fn lies_in(k: u8, piece: Piece, t: TileId) -> bool
 
 // Whether the block of one of some pieces is kept in the tile.
 fn any_lies_in(k: u8, some: &[Piece], t: TileId) -> bool
-    requires k_low { 4 ≤ k }
-    requires k_high { k ≤ 8 }
+    requires { IsSize k }
     ensures value { result ≡ list_any (λ p. same_tile (tile_of k p.bx p.by) t) some.now }
 {
     some.iter().any(|piece| lies_in(k, *piece, t))
@@ -57,8 +55,7 @@ fn any_lies_in(k: u8, some: &[Piece], t: TileId) -> bool
 /// Whether the region has a cell in a block of the tile. It fails where memory runs out.
 #[tactic(auto, unfolding(plan_model::specs::Tiles::meets_tile))]
 pub fn meets_tile(alloc: Global, k: u8, region: Region, t: TileId) -> Result<bool, AllocError>
-    requires k_low { 4 ≤ k }
-    requires k_high { k ≤ 8 }
+    requires k { IsSize k }
     requires region { IsWithin (2 ^ 24) region }
     ensures value { IfOk result (λ met. met ≡ meets_tile k region t) }
 {
@@ -68,8 +65,7 @@ pub fn meets_tile(alloc: Global, k: u8, region: Region, t: TileId) -> Result<boo
 
 // Those of some tiles in which the block of one of some pieces is kept.
 fn tiles_of(alloc: Global, k: u8, all: &[TileId], some: &[Piece]) -> Result<Vec<TileId>, AllocError>
-    requires k_low { 4 ≤ k }
-    requires k_high { k ≤ 8 }
+    requires { IsSize k }
     ensures value { IfOk result (λ v. v.items ≡ filter (λ t. list_any (λ p. same_tile (tile_of k p.bx p.by) t) some.now) all.now) }
 {
     all.iter()
@@ -80,8 +76,7 @@ fn tiles_of(alloc: Global, k: u8, all: &[TileId], some: &[Piece]) -> Result<Vec<
 
 /// The tiles that a region meets: by row, then by column. It fails where memory runs out.
 pub fn tiles_met(alloc: Global, k: u8, region: Region) -> Result<Vec<TileId>, AllocError>
-    requires k_low { 4 ≤ k }
-    requires k_high { k ≤ 8 }
+    requires k { IsSize k }
     requires region { IsWithin (2 ^ 24) region }
     ensures value { IfOk result (λ v. v.items ≡ tiles_met k region) }
 {

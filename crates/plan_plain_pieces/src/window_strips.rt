@@ -3,7 +3,7 @@
 ghost use Rattle.std.specs.Prelude.{◌≡◌, ◌^◌, filter, IfOk, IfSome};
 ghost use Rattle.clip_regions.specs.Regions.{IsWithin};
 ghost use Rattle.plan_model.specs.Strips.{first_of, left_of, right_of, above, below, has_cell, strips, current_strip, hull};
-ghost use Rattle.plan_plain_pieces.specs.Placed.{IsFilledPart, IsInside};
+ghost use Rattle.plan_model.specs.Sound.{IsFilledPart, IsInside};
 ghost use Rattle.plan_plain_pieces.specs.Spans.{span};
 
 use clip_regions::Region;

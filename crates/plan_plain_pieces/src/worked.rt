@@ -1,6 +1,9 @@
 //! The strip that a window lacks after a move to (3, 1), for K = 4.
 
-use crate::{current_strip, hull, need, pieces, tile_of, tiles_met};
+use crate::{
+    actives, block_of, current_strip, hull, need, pieces, tile_of, tile_of_cell, tiles_met,
+    wrapped_place,
+};
 use clip_regions::Region;
 use plan_model::{Piece, TileId};
 use std::test::Fail;
@@ -59,5 +62,34 @@ fn tiles_and_need_of_the_strip(rt: HostRuntime) -> Result<(), Fail> {
         y1: 5,
     };
     assert_eq!(rt; need(STRIP), coarser);
+    Ok(())
+}
+
+#[test]
+fn block_place_and_tile_of_a_cell(rt: HostRuntime) {
+    assert_eq!(rt; block_of(-1, 9), (-1, 1));
+    assert_eq!(rt; wrapped_place(4, -1, 9), (15, 9));
+    assert_eq!(rt; tile_of_cell(4, -1, 9), TileId { tx: 1, ty: 1 });
+}
+
+#[test]
+fn a_level_that_is_left_out_shows_nothing(rt: HostRuntime) -> Result<(), Fail> {
+    let square = |side: i32| Region {
+        x0: 0,
+        y0: 0,
+        x1: side,
+        y1: side,
+    };
+    let filled = [square(8), square(6)];
+    let used = actives(rt.alloc(), 4, 0, filled.as_slice())?;
+    let finer = Region {
+        x0: 4,
+        y0: 4,
+        x1: 8,
+        y1: 8,
+    };
+    assert_eq!(rt; used.as_slice(), [finer, square(6)].as_slice());
+    let high = actives(rt.alloc(), 4, 1, filled.as_slice())?;
+    assert_eq!(rt; high.as_slice(), [Region::empty(), square(6)].as_slice());
     Ok(())
 }

@@ -1,5 +1,5 @@
 -- The first of a list's elements that pass a test, one element at a time.
-use Rattle.std.proofs.Common.{◌≡◌, ℕ, ◌+◌, ◌-◌, ◌<◌, ◌≤◌, Bool, true, false, List, [], ◌∷◌, ◌++◌, filter, reverse, cond, Option, Some, None, refl, ap, sym, ◌∙◌, arith}
+use Rattle.std.proofs.Common.{◌≡◌, ℕ, ◌+◌, ◌-◌, ◌<◌, ◌≤◌, Bool, true, false, List, [], ◌∷◌, ◌++◌, filter, reverse, cond, Option, Some, None, unwrap_or, refl, ap, sym, ◌∙◌, arith}
 use Rattle.std.specs.List.{range_with_len}
 use Rattle.std.specs.Option.{IfSome}
 use Rattle.std.proofs.lemmas.List.Elements.{filter-append}
@@ -37,3 +37,7 @@ pub found_below : (n : ℕ) (old : Option ℕ) (b : Bool) (i : ℕ) → i < n �
 found_below n (Some m) b i h k = k
 found_below n None true i h k = h
 found_below n None false i h k = tt
+
+pub unwrapped_below : (o : Option ℕ) (n : ℕ) → IfSome o (λ l. l < n) → 1 ≤ n → unwrap_or o 0 < n
+unwrapped_below None n h some = some
+unwrapped_below (Some m) n h some = h

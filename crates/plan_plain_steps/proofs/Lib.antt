@@ -3,9 +3,5 @@ pub mod Firsts
 pub mod Kept
 pub mod Inside
 pub mod Placed
-pub mod Regions
-pub mod Soundness
-pub mod Lasting
-pub mod Finishes
 pub mod Moved
 pub mod Stepped

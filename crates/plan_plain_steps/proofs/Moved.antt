@@ -1,5 +1,6 @@
 -- The levels of a state, one level more at a time.
-use Rattle.std.proofs.Common.{◌≡◌, ◌≢◌, ℕ, ◌+◌, ◌<◌, ◌≤◌, ◌^◌, ℤ, List, map, length, get_or, set, ap, sym, ◌∙◌, arith, below_more, get_or-set_other, get_or-set_same}
+use Rattle.std.proofs.Common.{◌≡◌, ◌≢◌, ℕ, ◌+◌, ◌<◌, ◌≤◌, ◌^◌, Bool, ℤ, List, [], ◌∷◌, map, length, get_or, set, refl, ap, sym, ◌∙◌, arith, below_more, get_or-set_other, get_or-set_same}
+use mathlib.Core.Path.{ap₂}
 use Rattle.std.specs.List.{range_with_len}
 use Rattle.std.proofs.lemmas.Int.{ints}
 use Rattle.std.proofs.lemmas.List.{get_or_default, same_lists}
@@ -7,8 +8,10 @@ use Rattle.std.proofs.lemmas.List.FromFn.{length-map-range_with_len, get_or-map-
 use Rattle.clip_regions.specs.declared.region.Region.{Region}
 use Rattle.clip_regions.specs.Regions.{IsWithin}
 use Rattle.plan_model.specs.Window.{window}
-use Rattle.plan_model.specs.States.{Level, State, empty_level}
-use Rattle.plan_model.specs.Steps.{moved_level, move_step}
+use Rattle.plan_model.specs.States.{Level, State, empty_level, level_at, window_at, is_used}
+use Rattle.plan_model.specs.Steps.{seen_from, stays, moved_level, move_step}
+use Rattle.plan_plain_steps.specs.declared.moves.Viewer.{Viewer}
+use Rattle.plan_plain_steps.specs.Moves.{stays_for}
 
 -- levels that are made one by one in the place of others
 pub record IsMade (g : ℕ → Level) (start levels : List Level) (l : ℕ) : Type 0 where
@@ -46,12 +49,31 @@ farther r w = record {
   y1_high = omega (arith, ints, w.y1_high);
 }
 
+map_each : (f g : ℕ → Level) (xs : List ℕ) → ((x : ℕ) → f x ≡ g x) → map f xs ≡ map g xs
+map_each f g [] e = refl
+map_each f g (x ∷ xs) e = ap₂ (λ (y : Level) (ys : List Level). y ∷ ys) (e x) (map_each f g xs e)
+
+-- where a level stays, by the state before a move and the one with the other viewer
+stays_is : (st : State) (from to : Viewer) (level : ℕ) → from.x ≡ st.x → from.y ≡ st.y → from.a ≡ st.altitude → stays_for st.k (length st.levels) from to level ≡ stays st (seen_from st to.x to.y to.a) level
+unfolding stays is_used
+stays_is st from to level ex ey ea =
+    ap (λ (z : ℤ). let v : Viewer = record { x = z; y = from.y; a = from.a } in stays_for st.k (length st.levels) v to level) ex
+    ∙ ap (λ (z : ℤ). let v : Viewer = record { x = st.x; y = z; a = from.a } in stays_for st.k (length st.levels) v to level) ey
+    ∙ ap (λ (a : ℕ). let v : Viewer = record { x = st.x; y = st.y; a = a } in stays_for st.k (length st.levels) v to level) ea
+
+-- each level after a move
+abbrev pub moved_by : State → Viewer → Viewer → ℕ → Level
+moved_by st from to level = moved_level (stays_for st.k (length st.levels) from to level) (window st.k level to.x to.y) (get_or st.levels level empty_level)
+
+moved_is : (st : State) (from to : Viewer) (level : ℕ) → from.x ≡ st.x → from.y ≡ st.y → from.a ≡ st.altitude → moved_by st from to level ≡ moved_level (stays st (seen_from st to.x to.y to.a) level) (window_at (seen_from st to.x to.y to.a) level) (level_at st level)
+moved_is st from to level ex ey ea =
+    ap (λ (b : Bool). moved_level b (window st.k level to.x to.y) (get_or st.levels level empty_level)) (stays_is st from to level ex ey ea)
+
 -- the state after a move
-pub moved_state : (st : State) (x y x' y' ox oy : ℤ) (levels : List Level) → x' ≡ x → y' ≡ y → ox ≡ st.x → oy ≡ st.y → levels ≡ map (λ (l : ℕ). moved_level (window st.k l ox oy) (window st.k l x' y') (get_or st.levels l empty_level)) (range_with_len 0 (length st.levels)) → record st { x = x'; y = y'; levels = levels } ≡ (move_step st x y).state
+pub moved_state : (st : State) (x y : ℤ) (a : ℕ) (from to : Viewer) (levels : List Level) → from.x ≡ st.x → from.y ≡ st.y → from.a ≡ st.altitude → to.x ≡ x → to.y ≡ y → to.a ≡ a → levels ≡ map (moved_by st from to) (range_with_len 0 (length st.levels)) → record st { x = to.x; y = to.y; altitude = to.a; levels = levels } ≡ (move_step st x y a).state
 unfolding move_step
-moved_state st x y x' y' ox oy levels ex ey eox eoy e =
-    ap (λ (ls : List Level). let s : State = record st { x = x'; y = y'; levels = ls } in s) e
-    ∙ ap (λ (z : ℤ). let s : State = record st { x = z; y = y'; levels = map (λ (l : ℕ). moved_level (window st.k l ox oy) (window st.k l z y') (get_or st.levels l empty_level)) (range_with_len 0 (length st.levels)) } in s) ex
-    ∙ ap (λ (z : ℤ). let s : State = record st { x = x; y = z; levels = map (λ (l : ℕ). moved_level (window st.k l ox oy) (window st.k l x z) (get_or st.levels l empty_level)) (range_with_len 0 (length st.levels)) } in s) ey
-    ∙ ap (λ (z : ℤ). let s : State = record st { x = x; y = y; levels = map (λ (l : ℕ). moved_level (window st.k l z oy) (window st.k l x y) (get_or st.levels l empty_level)) (range_with_len 0 (length st.levels)) } in s) eox
-    ∙ ap (λ (z : ℤ). let s : State = record st { x = x; y = y; levels = map (λ (l : ℕ). moved_level (window st.k l st.x z) (window st.k l x y) (get_or st.levels l empty_level)) (range_with_len 0 (length st.levels)) } in s) eoy
+moved_state st x y a from to levels ox oy oa ex ey ea e =
+    ap (λ (ls : List Level). let s : State = record st { x = to.x; y = to.y; altitude = to.a; levels = ls } in s) (e ∙ map_each (moved_by st from to) (λ (level : ℕ). moved_level (stays st (seen_from st to.x to.y to.a) level) (window_at (seen_from st to.x to.y to.a) level) (level_at st level)) (range_with_len 0 (length st.levels)) (λ level. moved_is st from to level ox oy oa))
+    ∙ ap (λ (z : ℤ). (move_step st z to.y to.a).state) ex
+    ∙ ap (λ (z : ℤ). (move_step st x z to.a).state) ey
+    ∙ ap (λ (b : ℕ). (move_step st x y b).state) ea

@@ -1,36 +1,16 @@
--- Where the windows of the levels lie: near the mosaic's corner, with a cell, and not long.
-use Rattle.std.proofs.Common.{ℕ, ◌+◌, ◌-◌, ◌/◌, ◌^◌, ◌≤◌, ℤ, pos, negsuc, neg_ℤ, ◌≤ℤ◌, subst, sym, inl, inr, arith}
+-- Where the windows of the levels lie, and what lies in them.
+use Rattle.std.proofs.Common.{ℕ, ◌-◌, ◌^◌, ◌≤◌, ℤ, subst, sym, inl, inr, arith}
+use Rattle.std.specs.List.{All}
+use Rattle.std.specs.Option.{IfSome}
 use Rattle.std.proofs.lemmas.Int.{ints}
-use Rattle.std.proofs.Math.Nat.{div-le_self}
 use Rattle.std.proofs.Math.Pow.{pow_mono}
 use Rattle.clip_regions.specs.declared.region.Region.{Region}
-use Rattle.clip_regions.specs.FloorDivision.{floor_div}
 use Rattle.clip_regions.specs.Regions.{empty_region, IsWithin}
-use Rattle.plan_model.specs.Window.{window, center, half_width}
-use Rattle.plan_model.specs.Histories.{IsViewed}
-use Rattle.plan_plain_pieces.specs.Placed.{IsInside, IsFilledPart, IsShort}
-
--- a quotient lies no farther from zero than its number
-quotient_viewed : (v : ℤ) (d : ℕ) → IsViewed v → IsViewed (floor_div v d)
-unfolding floor_div
-quotient_viewed (pos n) d h =
-    let less : n / d ≤ n = div-le_self n d in
-    record { low = omega (arith, ints); high = omega (arith, ints, less) }
-quotient_viewed (negsuc n) d h =
-    let less : n / d ≤ n = div-le_self n d in
-    record { low = omega (arith, ints, less); high = omega (arith, ints) }
-
-record IsCentre (z : ℤ) : Type 0 where
-  low : neg_ℤ (pos 8388609) ≤ℤ z
-  high : z ≤ℤ pos 8388609
-
-centre_near : (level : ℕ) (v : ℤ) → IsViewed v → IsCentre (center level v)
-unfolding center
-centre_near level v h =
-    let q : IsViewed (floor_div v (2 ^ (level + 1))) = quotient_viewed v (2 ^ (level + 1)) h in
-    let low = q.low in
-    let high = q.high in
-    record { low = omega (arith, ints); high = omega (arith, ints) }
+use Rattle.plan_model.specs.Window.{window, half_width}
+use Rattle.plan_model.specs.States.{OpenFrame, Pass, frame_of}
+use Rattle.plan_model.specs.Sound.{IsInside, IsPartOf, IsSoundFrame, IsSoundPass}
+use Rattle.plan_model.specs.declared.events.Work.TheVariants.{Free, Fills, Draws}
+use Rattle.plan_plain_pieces.specs.Placed.{IsShort}
 
 power_least : (a b : ℕ) → a ≤ b → 2 ^ a ≤ 2 ^ b
 power_least a b h = pow_mono h
@@ -41,42 +21,12 @@ half_small k h =
     let power : 2 ^ (k - 1) ≤ 2 ^ 7 = power_least (k - 1) 7 (omega arith) in
     omega (arith, power)
 
--- a window lies near the mosaic's corner
-pub window_within : (k level : ℕ) (x y : ℤ) → k ≤ 8 → IsViewed x → IsViewed y → IsWithin (2 ^ 24) (window k level x y)
-unfolding window
-window_within k level x y h vx vy =
-    let half : half_width k ≤ 127 = half_small k h in
-    let column : IsCentre (center level x) = centre_near level x vx in
-    let row : IsCentre (center level y) = centre_near level y vy in
-    record {
-      x0_low = omega (arith, ints);
-      x0_high = omega (arith, ints);
-      y0_low = omega (arith, ints);
-      y0_high = omega (arith, ints);
-      x1_low = omega (arith, ints);
-      x1_high = omega (arith, ints);
-      y1_low = omega (arith, ints);
-      y1_high = omega (arith, ints);
-    }
-
--- it isn't long
+-- a window isn't long
 pub window_short : (k level : ℕ) (x y : ℤ) → k ≤ 8 → IsShort (window k level x y)
 unfolding window
 window_short k level x y h =
     let half : half_width k ≤ 127 = half_small k h in
     record { columns = omega (arith, ints); rows = omega (arith, ints) }
-
--- and it has a cell
-pub window_inside : (k level : ℕ) (x y : ℤ) → IsInside (window k level x y) (window k level x y)
-unfolding window
-window_inside k level x y = record {
-  west = omega (arith, ints);
-  columns = omega (arith, ints);
-  east = omega (arith, ints);
-  north = omega (arith, ints);
-  rows = omega (arith, ints);
-  south = omega (arith, ints);
-}
 
 -- what lies in a region that lies near the corner does so too
 pub inside_near : (n : ℕ) (window r : Region) → IsWithin n window → IsInside window r → IsWithin n r
@@ -91,7 +41,7 @@ inside_near n window r w h = record {
   y1_high = omega (arith, ints);
 }
 
-pub empty_near : (n : ℕ) → 1 ≤ n → IsWithin n empty_region
+empty_near : (n : ℕ) → 1 ≤ n → IsWithin n empty_region
 empty_near n h = record {
   x0_low = omega (arith, ints);
   x0_high = omega (arith, ints);
@@ -103,7 +53,13 @@ empty_near n h = record {
   y1_high = omega (arith, ints);
 }
 
--- so does a filled part of it
-pub part_near : (n : ℕ) (window filled : Region) → 1 ≤ n → IsWithin n window → IsFilledPart window filled → IsWithin n filled
-part_near n window filled h w (inl e) = subst (IsWithin n) (sym e) (empty_near n h)
-part_near n window filled h w (inr i) = inside_near n window filled w i
+-- so does an even part of it
+pub part_near : (n : ℕ) (window r : Region) → 1 ≤ n → IsWithin n window → IsPartOf window r → IsWithin n r
+part_near n window r h w (inl e) = subst (IsWithin n) (sym e) (empty_near n h)
+part_near n window r h w (inr i) = inside_near n window r w i.inside
+
+-- where each pass of a sound state has its frame, the active regions are near the mosaic's corner
+pub frame_near : (k count : ℕ) (pass : Pass) → ((frame : OpenFrame) → IsSoundFrame k count frame → All (IsWithin (2 ^ 24)) frame.actives) → IsSoundPass k count pass → IfSome (frame_of pass) (λ (frame : OpenFrame). All (IsWithin (2 ^ 24)) frame.actives)
+frame_near k count Free near h = tt
+frame_near k count (Fills job) near h = tt
+frame_near k count (Draws frame) near h = near frame h

@@ -1,3 +1,3 @@
 pub mod Found
 pub mod Frames
-pub mod Sound
+pub mod Moves

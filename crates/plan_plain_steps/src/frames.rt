@@ -5,14 +5,14 @@ ghost use Rattle.clip_regions.specs.Regions.{empty_region, IsWithin};
 ghost use Rattle.plan_model.specs.States.{from_coarsest, filled_regions};
 ghost use Rattle.plan_model.specs.Claims.{held_tiles};
 ghost use Rattle.plan_model.specs.Steps.{held_under, actives_at, frame_begun, begin_step, end_step};
-ghost use Rattle.plan_plain_steps.specs.Sound.{IsReady};
+ghost use Rattle.plan_model.specs.Sound.{IsReady};
 
-use crate::answers::held_by;
 use crate::pinners::region_at;
-use crate::state::{PlainFrame, PlainLevel, PlainPass, PlainState};
+use crate::state::{PlainFrame, PlainLevel, PlainState};
 use clip_regions::Region;
-use plan_model::{Answer, TileId};
+use plan_model::{Answer, TileId, Work};
 use plan_plain_pieces::actives;
+use plan_sound::filled_regions_are_near;
 use std::alloc::{AllocError, Global};
 use std::marker::Model;
 
@@ -79,32 +79,34 @@ fn held_under(
 ) -> Result<Vec<PlainTile>, AllocError>
     requires sound { IsReady state.now }
     requires active { All (IsWithin (2 ^ 24)) active.now }
-    ensures value { IfOk result (λ v. v.items ≡ flat_map (λ l. map (λ t. record { level = l; tile = t }) (held_tiles state.now l (slice_index_or active.now l empty_region))) (from_coarsest state.now)) }
+    ensures value { IfOk result (λ v. v.items ≡ flat_map (λ level. map (λ t. record { level = level; tile = t }) (held_tiles state.now level (slice_index_or active.now level empty_region))) (from_coarsest state.now)) }
 {
     let mut out = Vec::new(alloc);
-    for l in (0..state.level_count()).rev() {
-        let held = state.held_tiles(alloc, l, region_at(active, l))?;
-        push_tiles(&mut out, l, held.as_slice())?;
+    for level in (0..state.level_count()).rev() {
+        let held = state.held_tiles(alloc, level, region_at(active, level))?;
+        push_tiles(&mut out, level, held.as_slice())?;
     }
     Ok(out)
 }
 
 impl PlainState {
-    /// The active regions of the filled regions, the finest first. It fails where memory runs out.
+    /// The active regions, the finest first: a level that is left out shows nothing. It fails where memory
+    /// runs out.
     pub fn actives(&self, alloc: Global) -> Result<Vec<Region>, AllocError>
         requires { IsReady self.now }
         ensures value { IfOk result (λ v. v.items ≡ actives_at self.now) }
         ensures within { IfOk result (λ v. All (IsWithin (2 ^ 24)) v.items) }
     {
+        filled_regions_are_near();
         let filled = filled_regions(alloc, self.levels.as_slice())?;
-        actives(alloc, self.k, filled.as_slice())
+        actives(alloc, self.k, self.finest(), filled.as_slice())
     }
 
     // Pass p has a new frame of these active regions.
-    fn open_frame(&mut self, p: u8, regions: Vec<Region>) -> Answer
+    fn open_frame(&mut self, p: u8, actives: Vec<Region>) -> Answer
         requires sound { IsReady self.old }
         requires pass { p < 16 }
-        requires regions { regions.items ≡ actives_at self.old }
+        requires actives { actives.items ≡ actives_at self.old }
         ensures answer { result ≡ (frame_begun self.old p None).answer }
         ensures state { self.new ≡ (frame_begun self.old p None).state }
     {
@@ -113,9 +115,9 @@ impl PlainState {
             number,
             x: self.x,
             y: self.y,
-            regions,
+            actives,
         };
-        self.set_pass(p, PlainPass::with_frame(frame));
+        self.set_pass(p, Work::Draws(frame));
         self.begun = number + 1;
         Answer::Frame { number }
     }
@@ -132,14 +134,14 @@ impl PlainState {
         if self.has_work(p) {
             return Ok(Answer::HasWork);
         }
-        let regions = self.actives(alloc)?;
-        let held = held_under(alloc, self, regions.as_slice())?;
+        let actives = self.actives(alloc)?;
+        let held = held_under(alloc, self, actives.as_slice())?;
         match held.as_slice().first() {
             Some(held) => {
-                let holder = self.holder(held.level(), held.tile());
-                Ok(held_by(held.level(), held.tile(), holder))
+                let answer = self.held_answer(held.level(), held.tile());
+                Ok(answer.unwrap_or(Answer::Idle))
             }
-            None => Ok(self.open_frame(p, regions)),
+            None => Ok(self.open_frame(p, actives)),
         }
     }
 
@@ -153,7 +155,7 @@ impl PlainState {
     {
         match self.frame_at(p) {
             Some(number) => {
-                self.set_pass(p, PlainPass::free());
+                self.set_pass(p, Work::Free);
                 Answer::Closed { number }
             }
             None => Answer::NoFrame,

@@ -4,16 +4,17 @@ ghost use Rattle.std.specs.Prelude.{◌≡◌, ◌<◌, ◌≤◌, [], Some, Non
 ghost use Rattle.std.specs.Option.{option_map};
 ghost use Rattle.plan_model.specs.Strips.{first_of};
 ghost use Rattle.plan_model.specs.Claims.{strip_at};
-ghost use Rattle.plan_model.specs.Steps.{claim_step, finished_job, finish_step, grown_level, published, publish_step, job_of, job_answer, finished_level};
+ghost use Rattle.plan_model.specs.Steps.{claim_step, kept_job, stale_job, finished_job, finish_step, grown_level, published, publish_step, claimed_job, job_answer, finished_level};
 ghost use Rattle.plan_model.specs.Claims.{pieces_at};
 ghost use Rattle.plan_model.specs.States.{empty_level, level_at, with_level};
-ghost use Rattle.plan_plain_steps.specs.Sound.{IsReady};
+ghost use Rattle.plan_model.specs.Sound.{IsReady};
+ghost use Rattle.plan_model.specs.declared.events.Work.TheVariants.{Free, Fills};
 
 use crate::finished::finished_more;
 use crate::offers::PlainOffer;
-use crate::state::{PlainLevel, PlainPass, PlainState};
+use crate::state::{PlainLevel, PlainState};
 use clip_regions::Region;
-use plan_model::{Answer, JobNote, Piece};
+use plan_model::{Answer, JobNote, Piece, Work};
 use plan_plain_pieces::hull;
 use std::alloc::{AllocError, Global};
 
@@ -31,12 +32,12 @@ fn job_answer(job: JobNote) -> Answer
 }
 
 // Forgets what one of some levels has finished, and puts this region in the place of what it has filled.
-fn fill_level(alloc: Global, levels: &mut [PlainLevel], l: u8, filled: Region)
-    requires { l < length levels.old }
-    ensures value { levels.new ≡ slice_set levels.old l (record { filled = filled; finished = []; plan = (slice_index_or levels.old l empty_level).plan }) }
+fn fill_level(alloc: Global, levels: &mut [PlainLevel], level: u8, filled: Region)
+    requires { level < length levels.old }
+    ensures value { levels.new ≡ slice_set levels.old level (record { filled = filled; finished = []; plan = (slice_index_or levels.old level empty_level).plan }) }
 {
-    let plan = levels[l as usize].plan();
-    levels[l as usize] = PlainLevel {
+    let plan = levels[level as usize].plan();
+    levels[level as usize] = PlainLevel {
         filled,
         finished: Vec::new(alloc),
         plan,
@@ -44,13 +45,13 @@ fn fill_level(alloc: Global, levels: &mut [PlainLevel], l: u8, filled: Region)
 }
 
 // Puts these pieces in the place of what one of some levels has finished.
-fn finish_level(levels: &mut [PlainLevel], l: u8, finished: Vec<Piece>)
-    requires { l < length levels.old }
-    ensures value { levels.new ≡ slice_set levels.old l (record (slice_index_or levels.old l empty_level) { finished = finished.items }) }
+fn finish_level(levels: &mut [PlainLevel], level: u8, finished: Vec<Piece>)
+    requires { level < length levels.old }
+    ensures value { levels.new ≡ slice_set levels.old level (record (slice_index_or levels.old level empty_level) { finished = finished.items }) }
 {
-    let filled = levels[l as usize].filled();
-    let plan = levels[l as usize].plan();
-    levels[l as usize] = PlainLevel {
+    let filled = levels[level as usize].filled();
+    let plan = levels[level as usize].plan();
+    levels[level as usize] = PlainLevel {
         filled,
         finished,
         plan,
@@ -59,9 +60,9 @@ fn finish_level(levels: &mut [PlainLevel], l: u8, finished: Vec<Piece>)
 
 impl PlainState {
     // The job that a claimed piece makes.
-    fn job_of(&self, offer: &PlainOffer) -> JobNote
+    fn claimed_job(&self, offer: &PlainOffer) -> JobNote
         requires { offer.now.level < length self.now.levels }
-        ensures value { result ≡ job_of self.now offer.now }
+        ensures value { result ≡ claimed_job self.now offer.now }
     {
         JobNote {
             level: offer.level(),
@@ -73,10 +74,10 @@ impl PlainState {
     // The job that the first of some offers makes, where there is one.
     fn first_job(&self, offers: &[PlainOffer]) -> Option<JobNote>
         requires { All (λ offer. offer.level < length self.now.levels) offers.now }
-        ensures value { result ≡ option_map (job_of self.now) (first_of offers.now) }
+        ensures value { result ≡ option_map (claimed_job self.now) (first_of offers.now) }
     {
         match offers.first() {
-            Some(offer) => Some(self.job_of(offer)),
+            Some(offer) => Some(self.claimed_job(offer)),
             None => None,
         }
     }
@@ -96,7 +97,7 @@ impl PlainState {
         let offers = self.offers(alloc)?;
         match self.first_job(offers.as_slice()) {
             Some(job) => {
-                self.set_pass(p, PlainPass::with_job(job));
+                self.set_pass(p, Work::Fills(job));
                 Ok(job_answer(job))
             }
             None => self.no_offer(alloc),
@@ -104,11 +105,44 @@ impl PlainState {
     }
 
     // Puts these pieces in the place of what a level has finished.
-    fn set_finished(&mut self, l: u8, finished: Vec<Piece>)
-        requires { l < length self.old.levels }
-        ensures value { self.new ≡ with_level self.old l (record (level_at self.old l) { finished = finished.items }) }
+    fn set_finished(&mut self, level: u8, finished: Vec<Piece>)
+        requires { level < length self.old.levels }
+        ensures value { self.new ≡ with_level self.old level (record (level_at self.old level) { finished = finished.items }) }
     {
-        finish_level(self.levels.as_mut_slice(), l, finished);
+        finish_level(self.levels.as_mut_slice(), level, finished);
+    }
+
+    // Pass p gives a job of the level's plan back.
+    fn keep_job(&mut self, alloc: Global, p: u8, job: JobNote) -> Result<Answer, AllocError>
+        requires sound { IsReady self.old }
+        requires pass { p < 16 }
+        requires level { job.level < length self.old.levels }
+        ensures answer { IfOk result (λ answer. answer ≡ (kept_job self.old p job).answer) }
+        ensures state { OnOk result (self.new ≡ (kept_job self.old p job).state) }
+        ensures unchanged { OnErr result (self.new ≡ self.old) }
+    {
+        let all = self.pieces_at(alloc, job.level)?;
+        let levels = self.levels.as_slice();
+        let finished = finished_more(alloc, levels, job.level, all.as_slice(), job.piece)?;
+        self.set_pass(p, Work::Free);
+        self.set_finished(job.level, finished);
+        Ok(Answer::Kept)
+    }
+
+    // Pass p gives a job of an older plan back.
+    fn drop_job(&mut self, p: u8, job: JobNote) -> Answer
+        requires sound { IsReady self.old }
+        requires pass { p < 16 }
+        requires level { job.level < length self.old.levels }
+        ensures answer { result ≡ (stale_job self.old p job).answer }
+        ensures state { self.new ≡ (stale_job self.old p job).state }
+    {
+        let now = self.plan_at(job.level);
+        self.set_pass(p, Work::Free);
+        Answer::Stale {
+            plan: job.plan,
+            now,
+        }
     }
 
     // Pass p gives this job back.
@@ -121,20 +155,10 @@ impl PlainState {
         ensures state { OnOk result (self.new ≡ (finished_job self.old p job).state) }
         ensures unchanged { OnErr result (self.new ≡ self.old) }
     {
-        let now = self.plan_at(job.level);
-        if job.plan != now {
-            self.set_pass(p, PlainPass::free());
-            return Ok(Answer::Stale {
-                plan: job.plan,
-                now,
-            });
+        if job.plan == self.plan_at(job.level) {
+            return self.keep_job(alloc, p, job);
         }
-        let all = self.pieces_at(alloc, job.level)?;
-        let levels = self.levels.as_slice();
-        let finished = finished_more(alloc, levels, job.level, all.as_slice(), job.piece)?;
-        self.set_finished(job.level, finished);
-        self.set_pass(p, PlainPass::free());
-        Ok(Answer::Kept)
+        Ok(self.drop_job(p, job))
     }
 
     /// Pass `p` gives its job back. A pass without a job has none to give back: the answer is Idle, and
@@ -153,37 +177,42 @@ impl PlainState {
         }
     }
 
-    // The filled region of level l takes this strip in, where all its pieces are finished.
-    fn publish_strip(&mut self, alloc: Global, l: u8, strip: Region) -> Result<Answer, AllocError>
+    // The filled region of a level takes this strip in, where all its pieces are finished.
+    fn publish_strip(
+        &mut self,
+        alloc: Global,
+        level: u8,
+        strip: Region,
+    ) -> Result<Answer, AllocError>
         requires sound { IsReady self.old }
-        requires level { l < length self.old.levels }
-        ensures answer { IfOk result (λ answer. answer ≡ (published self.old l (Some strip)).answer) }
-        ensures state { OnOk result (self.new ≡ (published self.old l (Some strip)).state) }
+        requires level { level < length self.old.levels }
+        ensures answer { IfOk result (λ answer. answer ≡ (published self.old level (Some strip)).answer) }
+        ensures state { OnOk result (self.new ≡ (published self.old level (Some strip)).state) }
         ensures unchanged { OnErr result (self.new ≡ self.old) }
     {
-        let unfinished = self.unfinished_pieces(alloc, l)?;
+        let unfinished = self.unfinished_pieces(alloc, level)?;
         if unfinished.len() != 0 {
             return Ok(Answer::Waiting {
                 pieces: unfinished.len() as u32,
             });
         }
-        let region = hull(self.filled_at(l), strip);
-        fill_level(alloc, self.levels.as_mut_slice(), l, region);
+        let region = hull(self.filled_at(level), strip);
+        fill_level(alloc, self.levels.as_mut_slice(), level, region);
         Ok(Answer::Grown { region })
     }
 
     /// The filled region of a level takes its current strip in, where all of the strip's pieces are
     /// finished. Where memory runs out it fails and changes nothing.
     #[tactic(auto, unfolding(plan_model::specs::Steps::publish_step))]
-    pub fn publish(&mut self, alloc: Global, l: u8) -> Result<Answer, AllocError>
+    pub fn publish(&mut self, alloc: Global, level: u8) -> Result<Answer, AllocError>
         requires sound { IsReady self.old }
-        requires level { l < length self.old.levels }
-        ensures answer { IfOk result (λ answer. answer ≡ (publish_step self.old l).answer) }
-        ensures state { OnOk result (self.new ≡ (publish_step self.old l).state) }
+        requires level { level < length self.old.levels }
+        ensures answer { IfOk result (λ answer. answer ≡ (publish_step self.old level).answer) }
+        ensures state { OnOk result (self.new ≡ (publish_step self.old level).state) }
         ensures unchanged { OnErr result (self.new ≡ self.old) }
     {
-        match self.strip_at(alloc, l)? {
-            Some(strip) => self.publish_strip(alloc, l, strip),
+        match self.strip_at(alloc, level)? {
+            Some(strip) => self.publish_strip(alloc, level, strip),
             None => Ok(Answer::Whole),
         }
     }

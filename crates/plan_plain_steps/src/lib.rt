@@ -9,6 +9,7 @@ mod answers;
 mod finished;
 mod frames;
 mod holders;
+mod in_use;
 mod jobs;
 mod moves;
 mod numbered;
@@ -19,7 +20,8 @@ mod steps;
 
 pub use frames::PlainTile;
 pub use holders::holder_of;
+pub use in_use::finest_used;
 pub use offers::PlainOffer;
 pub use pinners::pinner_of;
-pub use state::{PlainFrame, PlainLevel, PlainPass, PlainState, same_region};
-pub use steps::is_taken;
+pub use state::{PlainFrame, PlainLevel, PlainState, frame_number, has_work, job_of, same_region};
+pub use steps::{is_taken, is_viewer};

@@ -1,58 +1,59 @@
 //! The levels and the passes of a state by their numbers.
 
 ghost use Rattle.std.specs.Prelude.{◌≡◌, ◌<◌, length, slice_index_or, slice_set};
-ghost use Rattle.plan_model.specs.States.{empty_level, free_pass, has_work, level_at, pass_at, with_level, with_pass};
+ghost use Rattle.plan_model.specs.States.{empty_level, job_of, frame_of, has_work, level_at, pass_at, with_level, with_pass};
+ghost use Rattle.plan_model.specs.declared.events.Work.TheVariants.{Free};
 ghost use Rattle.plan_plain_steps.specs.Frames.{number_of};
 
-use crate::state::{PlainLevel, PlainPass, PlainState};
-use plan_model::JobNote;
+use crate::state::{PlainFrame, PlainLevel, PlainState, frame_number, has_work, job_of};
+use plan_model::{JobNote, Work};
 
 // The plan number of one of some levels.
-fn plan_of(levels: &[PlainLevel], l: u8) -> u64
-    requires { l < length levels.now }
-    ensures value { result ≡ (slice_index_or levels.now l empty_level).plan }
+fn plan_of(levels: &[PlainLevel], level: u8) -> u64
+    requires { level < length levels.now }
+    ensures value { result ≡ (slice_index_or levels.now level empty_level).plan }
 {
-    levels[l as usize].plan()
+    levels[level as usize].plan()
 }
 
 // The job of one of some passes.
-fn job_of(passes: &[PlainPass], p: u8) -> Option<JobNote>
+fn job_in(passes: &[Work<PlainFrame>], p: u8) -> Option<JobNote>
     requires { p < length passes.now }
-    ensures value { result ≡ (slice_index_or passes.now p free_pass).job }
+    ensures value { result ≡ job_of (slice_index_or passes.now p Free) }
 {
-    passes[p as usize].job()
+    job_of(&passes[p as usize])
 }
 
 // The number of the frame of one of some passes.
-fn frame_of(passes: &[PlainPass], p: u8) -> Option<u64>
+fn frame_in(passes: &[Work<PlainFrame>], p: u8) -> Option<u64>
     requires { p < length passes.now }
-    ensures value { result ≡ number_of (slice_index_or passes.now p free_pass).frame }
+    ensures value { result ≡ number_of (frame_of (slice_index_or passes.now p Free)) }
 {
-    passes[p as usize].frame_number()
+    frame_number(&passes[p as usize])
 }
 
 // Whether one of some passes has a job or a frame.
-fn works(passes: &[PlainPass], p: u8) -> bool
+fn works(passes: &[Work<PlainFrame>], p: u8) -> bool
     requires { p < length passes.now }
-    ensures value { result ≡ has_work (slice_index_or passes.now p free_pass) }
+    ensures value { result ≡ has_work (slice_index_or passes.now p Free) }
 {
-    passes[p as usize].has_work()
+    has_work(&passes[p as usize])
 }
 
 // Puts another level in the place of one.
-fn put_level(levels: &mut [PlainLevel], l: u8, level: PlainLevel)
-    requires { l < length levels.old }
-    ensures value { levels.new ≡ slice_set levels.old l level }
+fn put_level(levels: &mut [PlainLevel], level: u8, new: PlainLevel)
+    requires { level < length levels.old }
+    ensures value { levels.new ≡ slice_set levels.old level new }
 {
-    levels[l as usize] = level;
+    levels[level as usize] = new;
 }
 
 // Puts another pass in the place of one.
-fn put_pass(passes: &mut [PlainPass], p: u8, pass: PlainPass)
+fn put_pass(passes: &mut [Work<PlainFrame>], p: u8, new: Work<PlainFrame>)
     requires { p < length passes.old }
-    ensures value { passes.new ≡ slice_set passes.old p pass }
+    ensures value { passes.new ≡ slice_set passes.old p new }
 {
-    passes[p as usize] = pass;
+    passes[p as usize] = new;
 }
 
 impl PlainState {
@@ -63,28 +64,35 @@ impl PlainState {
         self.k
     }
 
-    /// The plan number of a level.
-    pub fn plan_at(&self, l: u8) -> u64
-        requires { l < length self.now.levels }
-        ensures value { result ≡ (level_at self.now l).plan }
+    /// What each pass has.
+    pub fn passes(&self) -> &[Work<PlainFrame>]
+        ensures value { result.now ≡ self.now.passes }
     {
-        plan_of(self.levels.as_slice(), l)
+        self.passes.as_slice()
+    }
+
+    /// The plan number of a level.
+    pub fn plan_at(&self, level: u8) -> u64
+        requires { level < length self.now.levels }
+        ensures value { result ≡ (level_at self.now level).plan }
+    {
+        plan_of(self.levels.as_slice(), level)
     }
 
     /// The job that a pass has.
     pub fn job_at(&self, p: u8) -> Option<JobNote>
         requires { p < length self.now.passes }
-        ensures value { result ≡ (pass_at self.now p).job }
+        ensures value { result ≡ job_of (pass_at self.now p) }
     {
-        job_of(self.passes.as_slice(), p)
+        job_in(self.passes.as_slice(), p)
     }
 
     /// The number of the frame that a pass has.
     pub fn frame_at(&self, p: u8) -> Option<u64>
         requires { p < length self.now.passes }
-        ensures value { result ≡ number_of (pass_at self.now p).frame }
+        ensures value { result ≡ number_of (frame_of (pass_at self.now p)) }
     {
-        frame_of(self.passes.as_slice(), p)
+        frame_in(self.passes.as_slice(), p)
     }
 
     /// Whether a pass has a job or a frame.
@@ -95,19 +103,19 @@ impl PlainState {
         works(self.passes.as_slice(), p)
     }
 
-    // Puts another level in the place of level l.
-    pub(crate) fn set_level(&mut self, l: u8, level: PlainLevel)
-        requires { l < length self.old.levels }
-        ensures value { self.new ≡ with_level self.old l level }
+    // Puts another level in the place of one.
+    pub(crate) fn set_level(&mut self, level: u8, new: PlainLevel)
+        requires { level < length self.old.levels }
+        ensures value { self.new ≡ with_level self.old level new }
     {
-        put_level(self.levels.as_mut_slice(), l, level);
+        put_level(self.levels.as_mut_slice(), level, new);
     }
 
-    // Puts another pass in the place of pass p.
-    pub(crate) fn set_pass(&mut self, p: u8, pass: PlainPass)
+    // Puts this in the place of what pass p has.
+    pub(crate) fn set_pass(&mut self, p: u8, new: Work<PlainFrame>)
         requires { p < length self.old.passes }
-        ensures value { self.new ≡ with_pass self.old p pass }
+        ensures value { self.new ≡ with_pass self.old p new }
     {
-        put_pass(self.passes.as_mut_slice(), p, pass);
+        put_pass(self.passes.as_mut_slice(), p, new);
     }
 }

@@ -1,12 +1,15 @@
 //! What a book of the plan knows.
 
-ghost use Rattle.std.specs.Prelude.{◌≡◌, ◌≤◌, length, replicate, IfOk};
-ghost use Rattle.plan_model.specs.States.{empty_level, free_pass, has_work, same_region, start_state};
+ghost use Rattle.std.specs.Prelude.{◌≡◌, length, replicate, IfOk};
+ghost use Rattle.plan_model.specs.Limits.{IsSize, IsLevelCount};
+ghost use Rattle.plan_model.specs.States.{empty_level, job_of, frame_of, has_work, same_region, start_state};
+ghost use Rattle.plan_model.specs.Sound.{IsSound};
+ghost use Rattle.plan_model.specs.declared.events.Work.TheVariants.{Free};
 ghost use Rattle.plan_plain_steps.specs.Frames.{number_of};
-ghost use Rattle.plan_plain_steps.specs.Sound.{IsSound};
 
 use clip_regions::Region;
-use plan_model::{JobNote, Piece};
+use plan_model::{JobNote, Piece, Work};
+use plan_sound::starts_are_sound;
 use std::alloc::{AllocError, Global};
 use std::marker::Model;
 
@@ -33,7 +36,7 @@ pub struct PlainFrame {
     pub(crate) number: u64,
     pub(crate) x: i32,
     pub(crate) y: i32,
-    pub(crate) regions: Vec<Region>,
+    pub(crate) actives: Vec<Region>,
 }
 
 impl Model for PlainFrame {
@@ -41,34 +44,20 @@ impl Model for PlainFrame {
 
     ghost Value = { OpenFrame };
 
-    ghost view = { λ a. record { number = a.number; x = a.x; y = a.y; regions = a.regions.items } };
+    ghost view = { λ a. record { number = a.number; x = a.x; y = a.y; actives = a.actives.items } };
 }
 
-/// What a pass has: a job, a frame or neither.
-#[derive(Drop)]
-pub struct PlainPass {
-    pub(crate) job: Option<JobNote>,
-    pub(crate) frame: Option<PlainFrame>,
-}
-
-impl Model for PlainPass {
-    ghost use Rattle.plan_model.specs.States.{Pass};
-
-    ghost Value = { Pass };
-
-    ghost view = { λ a. record { job = a.job; frame = a.frame } };
-}
-
-/// The state of a book: K, the viewer, the levels with the finest first, the number of frames begun, and
-/// the passes.
+/// The state of a book: K, the viewer and its altitude, the levels with the finest first, the number of
+/// frames begun, and what each pass has.
 #[derive(Drop)]
 pub struct PlainState {
     pub(crate) k: u8,
     pub(crate) x: i32,
     pub(crate) y: i32,
+    pub(crate) altitude: u32,
     pub(crate) levels: Vec<PlainLevel>,
     pub(crate) begun: u64,
-    pub(crate) passes: Vec<PlainPass>,
+    pub(crate) passes: Vec<Work<PlainFrame>>,
 }
 
 impl Model for PlainState {
@@ -76,7 +65,7 @@ impl Model for PlainState {
 
     ghost Value = { State };
 
-    ghost view = { λ a. record { k = a.k; x = a.x; y = a.y; levels = a.levels.items; begun = a.begun; passes = a.passes.items } };
+    ghost view = { λ a. record { k = a.k; x = a.x; y = a.y; altitude = a.altitude; levels = a.levels.items; begun = a.begun; passes = a.passes.items } };
 }
 
 /// Whether two regions have the same cells.
@@ -123,60 +112,42 @@ impl PlainLevel {
     }
 }
 
-impl PlainPass {
-    /// A pass that has nothing.
-    pub fn free() -> PlainPass
-        ensures value { result ≡ free_pass }
+impl PlainFrame {
+    /// The frame's number.
+    pub fn number(&self) -> u64
+        ensures value { result ≡ self.now.number }
     {
-        PlainPass {
-            job: None,
-            frame: None,
-        }
+        self.number
     }
+}
 
-    // A pass that has a job.
-    pub(crate) fn with_job(job: JobNote) -> PlainPass
-        ensures value { result ≡ record { job = Some job; frame = None } }
-    {
-        PlainPass {
-            job: Some(job),
-            frame: None,
-        }
+/// The job that a pass has.
+pub fn job_of(pass: &Work<PlainFrame>) -> Option<JobNote>
+    ensures value { result ≡ job_of pass.now }
+{
+    match pass {
+        Work::Fills(job) => Some(*job),
+        Work::Free | Work::Draws(_) => None,
     }
+}
 
-    // A pass that has a frame.
-    pub(crate) fn with_frame(frame: PlainFrame) -> PlainPass
-        ensures value { result ≡ record { job = None; frame = Some frame } }
-    {
-        PlainPass {
-            job: None,
-            frame: Some(frame),
-        }
+/// The number of the frame that a pass has.
+pub fn frame_number(pass: &Work<PlainFrame>) -> Option<u64>
+    ensures value { result ≡ number_of (frame_of pass.now) }
+{
+    match pass {
+        Work::Draws(frame) => Some(frame.number),
+        Work::Free | Work::Fills(_) => None,
     }
+}
 
-    /// The job that the pass has.
-    pub fn job(&self) -> Option<JobNote>
-        ensures value { result ≡ self.now.job }
-    {
-        self.job
-    }
-
-    /// The number of the frame that the pass has.
-    pub fn frame_number(&self) -> Option<u64>
-        ensures value { result ≡ number_of self.now.frame }
-    {
-        match &self.frame {
-            Some(frame) => Some(frame.number),
-            None => None,
-        }
-    }
-
-    /// Whether the pass has a job or a frame.
-    #[tactic(auto, unfolding(plan_model::specs::States::has_work))]
-    pub fn has_work(&self) -> bool
-        ensures value { result ≡ has_work self.now }
-    {
-        self.job.is_some() || self.frame.is_some()
+/// Whether a pass has a job or a frame.
+pub fn has_work(pass: &Work<PlainFrame>) -> bool
+    ensures value { result ≡ has_work pass.now }
+{
+    match pass {
+        Work::Free => false,
+        Work::Fills(_) | Work::Draws(_) => true,
     }
 }
 
@@ -194,34 +165,35 @@ fn empty_levels(alloc: Global, count: u8) -> Result<Vec<PlainLevel>, AllocError>
 
 // Free passes.
 #[tactic(auto, using(std::proofs::lemmas::List::replicate_more))]
-fn free_passes(alloc: Global, count: u8) -> Result<Vec<PlainPass>, AllocError>
-    ensures value { IfOk result (λ v. v.items ≡ replicate count free_pass) }
+fn free_passes(alloc: Global, count: u8) -> Result<Vec<Work<PlainFrame>>, AllocError>
+    ensures value { IfOk result (λ v. v.items ≡ replicate count Free) }
 {
     let mut out = Vec::new(alloc);
     'made: for _ in 0..count {
-        out.push(PlainPass::free())?;
+        out.push(Work::Free)?;
     }
     Ok(out)
 }
 
 impl PlainState {
-    /// The state at the start, for K from 4 to 8 and at most 12 levels: viewer (0, 0), nothing filled, 16
-    /// free passes. It fails where memory runs out.
+    /// The state at the start, for K from 4 to 8 and 1 to 12 levels: viewer (0, 0) at altitude 0, nothing
+    /// filled, 16 free passes. It fails where memory runs out.
     #[tactic(auto, unfolding(plan_model::specs::States::start_state))]
     pub fn start(alloc: Global, k: u8, levels: u8) -> Result<PlainState, AllocError>
-        requires k_low { 4 ≤ k }
-        requires k_high { k ≤ 8 }
-        requires few { levels ≤ 12 }
+        requires k { IsSize k }
+        requires levels { IsLevelCount levels }
         ensures value { IfOk result (λ state. state ≡ start_state k levels) }
         ensures sound { IfOk result (λ state. IsSound 0 state) }
         ensures count { IfOk result (λ state. length state.levels ≡ levels) }
     {
+        starts_are_sound();
         let levels = empty_levels(alloc, levels)?;
         let passes = free_passes(alloc, 16)?;
         Ok(PlainState {
             k,
             x: 0,
             y: 0,
+            altitude: 0,
             levels,
             begun: 0,
             passes,

@@ -15,7 +15,7 @@ divided c =
     moved c.args.v (to_z w32 (of_z w32 c.args.v)) (pos (2 * 2 ^ c.args.level)) (to_z w32 (of_z w32 c.power_of_two.result)) c.floor_div.result (read_back c.args.v c.ranges.v) (read_back c.power_of_two.result (record { sfits = c.power_of_two.type_inv }) ∙ c.power_of_two.ensures.value ∙ ap pos (doubled_power c.args.level)) (record { below = c.floor_div.ensures.below; above = c.floor_div.ensures.above; at_zero_or_more = c.floor_div.ensures.at_zero_or_more; below_zero = c.floor_div.ensures.below_zero })
 
 near : (c : goal.After-floor_div) → IsNearZero c.floor_div.result
-near c = quotient_bounds c.args.v (pos (2 * 2 ^ c.args.level)) c.floor_div.result c.requires.low c.requires.high (divided c)
+near c = quotient_bounds c.args.v (pos (2 * 2 ^ c.args.level)) c.floor_div.result c.requires.v.low c.requires.v.high (divided c)
 
 quotient_is : (c : goal.After-floor_div) → c.floor_div.result ≡ floor_div c.args.v (2 ^ (c.args.level + 1))
 quotient_is c =

@@ -10,10 +10,10 @@ returns-clause-value c = read_back c.power_of_two.result (record { sfits = c.pow
 
 pub returns-clause-low : goal.returns-clause-low
 returns-clause-low c =
-    let least : 16 ≤ 2 ^ c.args.k = power_least 4 c.args.k c.requires.k_low in
+    let least : 16 ≤ 2 ^ c.args.k = power_least 4 c.args.k c.requires.low in
     omega (arith, ints)
 
 pub returns-clause-high : goal.returns-clause-high
 returns-clause-high c =
-    let most : 2 ^ c.args.k ≤ 256 = power_least c.args.k 8 c.requires.k_high in
+    let most : 2 ^ c.args.k ≤ 256 = power_least c.args.k 8 c.requires.high in
     omega (arith, ints)

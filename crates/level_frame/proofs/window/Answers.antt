@@ -73,4 +73,4 @@ returns-clause-in_reach c =
     let spacing : 2 ^ c.args.level ≤ 2048 = power_least c.args.level 11 c.requires.level in
     let across : IsCentered (center c.args.level c.args.x) c.args.x (2 ^ c.args.level) = centered_at (center c.args.level c.args.x) c.center-column.result c.args.x (to_z w32 (of_z w32 c.args.x)) (2 ^ c.args.level) (column c) (read_back c.args.x c.ranges.x) (record { west = c.center-column.ensures.west; east = c.center-column.ensures.east }) in
     let along : IsCentered (center c.args.level c.args.y) c.args.y (2 ^ c.args.level) = centered_at (center c.args.level c.args.y) c.center-row.result c.args.y (to_z w32 (of_z w32 c.args.y)) (2 ^ c.args.level) (row c) (read_back c.args.y c.ranges.y) (record { west = c.center-row.ensures.west; east = c.center-row.ensures.east }) in
-    subst (IsInReach c.args.level) (sym (returns-clause-value c)) (window_in_reach c.args.k c.args.level c.args.x c.args.y half spacing (record { low = c.requires.x_low; high = c.requires.x_high }) (record { low = c.requires.y_low; high = c.requires.y_high }) across along)
+    subst (IsInReach c.args.level) (sym (returns-clause-value c)) (window_in_reach c.args.k c.args.level c.args.x c.args.y half spacing c.requires.x c.requires.y across along)

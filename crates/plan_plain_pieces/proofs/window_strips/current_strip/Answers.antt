@@ -3,7 +3,7 @@ use Rattle.std.specs.Option.{IfSome}
 use Rattle.std.proofs.Common.{◌≡◌, Option, ap, sym, ◌∙◌, subst}
 use Rattle.clip_regions.specs.declared.region.Region.{Region}
 use Rattle.plan_model.specs.Strips.{first_of, strips, current_strip}
-use Rattle.plan_plain_pieces.specs.Placed.{IsInside}
+use Rattle.plan_model.specs.Sound.{IsInside}
 use Rattle.plan_plain_pieces.proofs.Insides.{strip_inside}
 use Rattle.plan_plain_pieces.proofs.window_strips.current_strip.Goals as goal
 

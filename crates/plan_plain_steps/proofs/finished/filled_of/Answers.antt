@@ -5,5 +5,5 @@ use Rattle.plan_plain_steps.proofs.finished.filled_of.Goals as goal
 
 pub returns : goal.returns
 returns c = record {
-  value = c.filled.ensures.value ∙ ap (λ (level : Level). level.filled) (c.index-levels-l.is ∙ get_or_default c.args.levels.now c.args.l c.index-levels-l.result empty_level c.requires);
+  value = c.filled.ensures.value ∙ ap (λ (level : Level). level.filled) (c.index-levels-level.is ∙ get_or_default c.args.levels.now c.args.level c.index-levels-level.result empty_level c.requires);
 }

@@ -1,6 +1,6 @@
 use Rattle.std.proofs.Common.{◌≡◌, replicate}
-use Rattle.plan_model.specs.States.{free_pass}
+use Rattle.plan_model.specs.declared.events.Work.TheVariants.{Free}
 use Rattle.plan_plain_steps.proofs.state.free_passes.Given as goal
 
 abbrev pub invariant-made : goal.invariant-made
-invariant-made l = l.out.items ≡ replicate l.counter free_pass
+invariant-made l = l.out.items ≡ replicate l.counter Free
