@@ -1,4 +1,4 @@
--- What a pass has while events of other passes are answered, as statements: each is the contract of a law of this crate.
+-- What passes have while events are answered, as statements: each is the contract of a law of this crate.
 use Rattle.std.specs.Prelude.{◌≡◌, ℕ, ◌↔◌, ℤ, List, ◌++◌, length}
 use Rattle.plan_model.specs.States.{State, pass_at}
 use Rattle.plan_model.specs.Steps.{step}
@@ -27,14 +27,17 @@ OthersKeepParts =
 -- a list of entries without one of a pass leaves what the pass has
 abbrev pub EntriesOfOthersLeaveParts : Type 0
 EntriesOfOthersLeaveParts =
-    (st : State) (entries : List Entry) (p : ℕ) → HasNoEntryOf p entries → pass_at (state_after st entries) p ≡ pass_at st p
+    (st : State) (entries : List Entry) (p : ℕ) → HasNoEntryOf p entries →
+    pass_at (state_after st entries) p ≡ pass_at st p
 
 -- a pass without an entry in a history has nothing
 abbrev pub NoEntryNoPart : Type 0
 NoEntryNoPart =
-    (k levels : ℕ) (entries : List Entry) (p : ℕ) → HasNoEntryOf p entries → pass_at (state_of_history k levels entries) p ≡ Free
+    (k levels : ℕ) (entries : List Entry) (p : ℕ) → HasNoEntryOf p entries →
+    pass_at (state_of_history k levels entries) p ≡ Free
 
 -- two lists together have no entry of a pass where neither has one
 abbrev pub NoEntryInTwo : Type 0
 NoEntryInTwo =
-    (p : ℕ) (first second : List Entry) → HasNoEntryOf p (first ++ second) ↔ (HasNoEntryOf p first × HasNoEntryOf p second)
+    (p : ℕ) (first second : List Entry) →
+    HasNoEntryOf p (first ++ second) ↔ (HasNoEntryOf p first × HasNoEntryOf p second)

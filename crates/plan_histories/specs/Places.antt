@@ -47,7 +47,8 @@ NoEntryNoPlace = (k levels : ℕ) → places k levels [] ≡ 0
 -- a legal history with one entry more takes as many places more as its event with its answer
 abbrev pub PlacesWithOneMore : Type 0
 PlacesWithOneMore =
-    (k levels : ℕ) (entries : List Entry) (e : Entry) → IsLegalHistory k levels (entries ++ e ∷ []) → places k levels (entries ++ e ∷ []) ≡ places k levels entries + places_of e.event e.answer
+    (k levels : ℕ) (entries : List Entry) (e : Entry) → IsLegalHistory k levels (entries ++ e ∷ []) →
+    places k levels (entries ++ e ∷ []) ≡ places k levels entries + places_of e.event e.answer
 
 -- an event takes at most so many places
 abbrev pub PlacesAreFew : Type 0

@@ -8,7 +8,8 @@ use Rattle.plan_model.specs.declared.events.Entry.{Entry}
 -- from a state, each event's pass is there and the event is allowed in its turn
 abbrev pub AllAllowedFrom : State → List Asked → Type 0
 AllAllowedFrom st [] = Unit {0}
-AllAllowedFrom st (a ∷ rest) = (a.pass < length st.passes) × IsAllowed st a.pass a.event × AllAllowedFrom (step st a.pass a.event).state rest
+AllAllowedFrom st (a ∷ rest) =
+    (a.pass < length st.passes) × IsAllowed st a.pass a.event × AllAllowedFrom (step st a.pass a.event).state rest
 
 -- a run whose every event is allowed leaves a legal history
 abbrev pub RunsAreLegal : Type 0

@@ -1,6 +1,7 @@
 //! Laws of legal lists of entries, from any state.
 
-ghost use Rattle.plan_histories.specs.Legal.{StatesAfterTwo, LegalTogether, LegalFronts, LegalWithOneMore, StatesAfterOneMore};
+ghost use Rattle.plan_histories.specs.Legal.{StatesAfterTwo, LegalTogether, LegalFronts, LegalWithOneMore};
+ghost use Rattle.plan_histories.specs.Legal.{StatesAfterOneMore};
 
 /// The state after two lists of entries is that after the second, from the state that the first leaves.
 pub fn states_after_two()

@@ -1,6 +1,7 @@
 //! Laws of what a pass has while events of other passes are answered.
 
-ghost use Rattle.plan_histories.specs.Parts.{PassesAreKept, MovesLeaveParts, PublicationsLeaveParts, OthersKeepParts, EntriesOfOthersLeaveParts, NoEntryNoPart, NoEntryInTwo};
+ghost use Rattle.plan_histories.specs.Parts.{PassesAreKept, MovesLeaveParts, PublicationsLeaveParts, OthersKeepParts};
+ghost use Rattle.plan_histories.specs.Parts.{EntriesOfOthersLeaveParts, NoEntryNoPart, NoEntryInTwo};
 
 /// An event leaves the number of passes.
 pub fn passes_are_kept()

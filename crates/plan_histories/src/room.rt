@@ -1,6 +1,7 @@
 //! Laws of how many places and how many moves a history has.
 
-ghost use Rattle.plan_histories.specs.Places.{NoEntryNoPlace, PlacesWithOneMore, PlacesAreFew, MovesOfTwo, MovesWithOneMore};
+ghost use Rattle.plan_histories.specs.Places.{NoEntryNoPlace, PlacesWithOneMore, PlacesAreFew, MovesOfTwo};
+ghost use Rattle.plan_histories.specs.Places.{MovesWithOneMore};
 
 /// A history of no entry takes no place.
 pub fn no_entry_no_place()

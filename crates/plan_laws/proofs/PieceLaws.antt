@@ -65,7 +65,13 @@ all_pieces P r each =
 -- ---- meets, blocks and the region
 pub pieces_are_meets : PiecesAreMeets
 unfolding piece_in
-pieces_are_meets r = all_pieces (λ (piece : Piece). piece ≡ piece_in r piece.bx piece.by) r (λ _ bx by _ _. refl)
+pieces_are_meets r =
+    all_pieces (λ (piece : Piece). piece.cells ≡ meet r (block_cells piece.bx piece.by)) r (λ _ bx by _ _. refl)
+
+-- a piece is the one of its block
+of_its_block : (r : Region) → All (λ piece. piece ≡ piece_in r piece.bx piece.by) (pieces r)
+unfolding piece_in
+of_its_block r = all_pieces (λ (piece : Piece). piece ≡ piece_in r piece.bx piece.by) r (λ _ bx by _ _. refl)
 
 pub pieces_in_blocks : PiecesInBlocks
 unfolding piece_in
@@ -199,6 +205,6 @@ pub one_piece_a_block : OnePieceABlock
 unfolding same_block
 one_piece_a_block r p q here there e =
     let parts : (same_number p.bx q.bx ≡ true) × (same_number p.by q.by ≡ true) = and_parts (same_number p.bx q.bx) (same_number p.by q.by) e in
-    let a : p ≡ piece_in r p.bx p.by = member_is (λ (piece : Piece). piece ≡ piece_in r piece.bx piece.by) (pieces r) p (pieces_are_meets r) here in
-    let b : q ≡ piece_in r q.bx q.by = member_is (λ (piece : Piece). piece ≡ piece_in r piece.bx piece.by) (pieces r) q (pieces_are_meets r) there in
+    let a : p ≡ piece_in r p.bx p.by = member_is (λ (piece : Piece). piece ≡ piece_in r piece.bx piece.by) (pieces r) p (of_its_block r) here in
+    let b : q ≡ piece_in r q.bx q.by = member_is (λ (piece : Piece). piece ≡ piece_in r piece.bx piece.by) (pieces r) q (of_its_block r) there in
     a ∙ ap₂ (piece_in r) (same_from_test p.bx q.bx parts.0) (same_from_test p.by q.by parts.1) ∙ sym b

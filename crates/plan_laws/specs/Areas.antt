@@ -23,9 +23,11 @@ HeldHaveNoMoreCells = (a b : Region) → IsTrue (holds a b) → area b ≤ area 
 -- a filled region that grows by its current strip has the cells of both
 abbrev pub HullsAddStrips : Type 0
 HullsAddStrips =
-    (k level : ℕ) (x y : ℤ) (filled strip : Region) → IsFilledIn filled (window k level x y) → current_strip filled (window k level x y) ≡ Some strip → area (hull filled strip) ≡ area filled + area strip
+    (k level : ℕ) (x y : ℤ) (filled strip : Region) → IsFilledIn filled (window k level x y) →
+    current_strip filled (window k level x y) ≡ Some strip → area (hull filled strip) ≡ area filled + area strip
 
 -- the cells of a level's window that are filled and those that aren't are the window's
 abbrev pub UnfilledCells : Type 0
 UnfilledCells =
-    (st : State) (level : ℕ) → IsFilledIn (filled_at st level) (window_at st level) → unfilled_cells st level + area (filled_at st level) ≡ area (window_at st level)
+    (st : State) (level : ℕ) → IsFilledIn (filled_at st level) (window_at st level) →
+    unfilled_cells st level + area (filled_at st level) ≡ area (window_at st level)

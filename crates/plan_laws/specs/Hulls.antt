@@ -20,14 +20,19 @@ PartsAreFilledIn = (window filled : Region) → IsPartOf window filled → IsFil
 -- a filled region and its current strip grow to a region with even corners in the window
 abbrev pub HullsAreEvenInside : Type 0
 HullsAreEvenInside =
-    (k level : ℕ) (x y : ℤ) (filled strip : Region) → 2 ≤ k → IsPartOf (window k level x y) filled → current_strip filled (window k level x y) ≡ Some strip → IsEvenInside (window k level x y) (hull filled strip)
+    (k level : ℕ) (x y : ℤ) (filled strip : Region) → 2 ≤ k → IsPartOf (window k level x y) filled →
+    current_strip filled (window k level x y) ≡ Some strip →
+    IsEvenInside (window k level x y) (hull filled strip)
 
 -- the current strip has a cell and lies in the window
 abbrev pub StripsInWindows : Type 0
 StripsInWindows =
-    (k level : ℕ) (x y : ℤ) (filled strip : Region) → IsFilledIn filled (window k level x y) → current_strip filled (window k level x y) ≡ Some strip → (is_empty strip ≡ false) × IsTrue (holds (window k level x y) strip)
+    (k level : ℕ) (x y : ℤ) (filled strip : Region) → IsFilledIn filled (window k level x y) →
+    current_strip filled (window k level x y) ≡ Some strip →
+    (is_empty strip ≡ false) × IsTrue (holds (window k level x y) strip)
 
 -- there is a current strip unless the filled region is the window
 abbrev pub StripsUnlessWhole : Type 0
 StripsUnlessWhole =
-    (k level : ℕ) (x y : ℤ) (filled : Region) → IsFilledIn filled (window k level x y) → is_some (current_strip filled (window k level x y)) ≡ not (same_region filled (window k level x y))
+    (k level : ℕ) (x y : ℤ) (filled : Region) → IsFilledIn filled (window k level x y) →
+    is_some (current_strip filled (window k level x y)) ≡ not (same_region filled (window k level x y))

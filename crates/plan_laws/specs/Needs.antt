@@ -18,7 +18,8 @@ NeedsAreMonotone =
 -- what a region in a window needs lies in the next coarser window
 abbrev pub NeedsInCoarserWindows : Type 0
 NeedsInCoarserWindows =
-    (k level : ℕ) (x y : ℤ) (r : Region) → 3 ≤ k → is_empty r ≡ false → IsTrue (holds (window k level x y) r) → IsTrue (holds (window k (level + 1) x y) (need r))
+    (k level : ℕ) (x y : ℤ) (r : Region) → 3 ≤ k → is_empty r ≡ false → IsTrue (holds (window k level x y) r) →
+    IsTrue (holds (window k (level + 1) x y) (need r))
 
 -- the patch of a block: seven coarser columns and rows, from 4 bx - 1 to 4 bx + 5 and alike by
 unfoldable pub patch_of : ℤ → ℤ → Region

@@ -4,15 +4,15 @@ use Rattle.std.specs.Int.{int_gap}
 use Rattle.std.specs.List.{All, AllPairs, Contains}
 use Rattle.clip_regions.specs.declared.region.Region.{Region}
 use Rattle.clip_regions.specs.FloorDivision.{floor_div}
-use Rattle.clip_regions.specs.Regions.{contains, is_empty, holds}
+use Rattle.clip_regions.specs.Regions.{contains, is_empty, meet, holds}
 use Rattle.plan_model.specs.Window.{window}
 use Rattle.plan_model.specs.Blocks.{block_cells, tile_of, tile_of_cell, same_block}
-use Rattle.plan_model.specs.Strips.{pieces, piece_in}
+use Rattle.plan_model.specs.Strips.{pieces}
 use Rattle.plan_model.specs.declared.tiles.Piece.{Piece}
 
--- each piece is the meet of the region with the piece's block
+-- the cells of each piece are those that the region shares with the piece's block
 abbrev pub PiecesAreMeets : Type 0
-PiecesAreMeets = (r : Region) → All (λ piece. piece ≡ piece_in r piece.bx piece.by) (pieces r)
+PiecesAreMeets = (r : Region) → All (λ piece. piece.cells ≡ meet r (block_cells piece.bx piece.by)) (pieces r)
 
 -- each piece has a cell
 abbrev pub PiecesHaveCells : Type 0
@@ -27,9 +27,12 @@ abbrev pub PiecesInRegion : Type 0
 PiecesInRegion = (r : Region) → All (λ piece. IsTrue (holds r piece.cells)) (pieces r)
 
 -- all cells of a piece have the torus tile of its block
+abbrev pub HasOneTile : ℕ → Piece → Type 0
+HasOneTile k piece =
+    (i j : ℤ) → IsTrue (contains piece.cells i j) → tile_of_cell k i j ≡ tile_of k piece.bx piece.by
+
 abbrev pub PiecesInTiles : Type 0
-PiecesInTiles =
-    (k : ℕ) (r : Region) → 3 ≤ k → All (λ piece. (i j : ℤ) → IsTrue (contains piece.cells i j) → tile_of_cell k i j ≡ tile_of k piece.bx piece.by) (pieces r)
+PiecesInTiles = (k : ℕ) (r : Region) → 3 ≤ k → All (HasOneTile k) (pieces r)
 
 -- two pieces of one region have different blocks
 abbrev pub DifferentBlocks : Type 0

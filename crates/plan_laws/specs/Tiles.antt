@@ -27,7 +27,8 @@ meets_row k r ty = list_any (λ by. floor_rem by (tiles_per_side k) == ty) (bloc
 -- a region of some cells meets a tile where it meets the tile's column and its row
 abbrev pub TilesMetBySides : Type 0
 TilesMetBySides =
-    (k : ℕ) (r : Region) (t : TileId) → is_empty r ≡ false → meets_tile k r t ≡ (meets_column k r t.tx && meets_row k r t.ty)
+    (k : ℕ) (r : Region) (t : TileId) → is_empty r ≡ false →
+    meets_tile k r t ≡ (meets_column k r t.tx && meets_row k r t.ty)
 
 -- the columns and the rows of tiles that a region meets, ascending
 abbrev pub columns_met : ℕ → Region → List ℕ
@@ -39,4 +40,5 @@ rows_met k r = filter (meets_row k r) (range_with_len 0 (tiles_per_side k))
 -- the tiles that a region of some cells meets are those of the columns and of the rows that it meets
 abbrev pub TilesMetAreProducts : Type 0
 TilesMetAreProducts =
-    (k : ℕ) (r : Region) → is_empty r ≡ false → tiles_met k r ≡ flat_map (λ ty. map (λ tx. record { tx = tx; ty = ty }) (columns_met k r)) (rows_met k r)
+    (k : ℕ) (r : Region) → is_empty r ≡ false →
+    tiles_met k r ≡ flat_map (λ ty. map (λ tx. record { tx = tx; ty = ty }) (columns_met k r)) (rows_met k r)

@@ -1,6 +1,7 @@
 //! Laws of how many cells pieces, filled regions and strips have.
 
-ghost use Rattle.plan_laws.specs.Areas.{RegionsHavePieces, PiecesAreNoMoreThanCells, HeldHaveNoMoreCells, HullsAddStrips, UnfilledCells};
+ghost use Rattle.plan_laws.specs.Areas.{RegionsHavePieces, PiecesAreNoMoreThanCells, HeldHaveNoMoreCells};
+ghost use Rattle.plan_laws.specs.Areas.{HullsAddStrips, UnfilledCells};
 
 /// A region of some cells has a piece.
 pub fn regions_have_pieces()

@@ -1,11 +1,13 @@
 //! Laws of the pieces of a region.
 
-ghost use Rattle.plan_laws.specs.Pieces.{PiecesAreMeets, PiecesHaveCells, PiecesInBlocks, PiecesInRegion, PiecesInTiles, DifferentBlocks, OnePieceABlock, PiecesAreCounted, WindowsHaveFewPieces};
+ghost use Rattle.plan_laws.specs.Pieces.{PiecesAreMeets, PiecesHaveCells, PiecesInBlocks, PiecesInRegion};
+ghost use Rattle.plan_laws.specs.Pieces.{PiecesInTiles, DifferentBlocks, OnePieceABlock, PiecesAreCounted};
+ghost use Rattle.plan_laws.specs.Pieces.{WindowsHaveFewPieces};
 ghost use Rattle.plan_laws.specs.Finished.{FinishedAreFound, FinishedAndUnfinished};
 
 use plan_model::blocks_have_one_tile;
 
-/// Each piece is the meet of the region with the piece's block.
+/// The cells of each piece are those that the region shares with the piece's block.
 pub fn pieces_are_meets()
     ensures { PiecesAreMeets }
 {}

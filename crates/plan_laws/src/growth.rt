@@ -1,6 +1,7 @@
 //! Laws of a filled region that grows in its window.
 
-ghost use Rattle.plan_laws.specs.Hulls.{InsideIsHeld, PartsAreFilledIn, HullsAreEvenInside, StripsInWindows, StripsUnlessWhole};
+ghost use Rattle.plan_laws.specs.Hulls.{InsideIsHeld, PartsAreFilledIn, HullsAreEvenInside, StripsInWindows};
+ghost use Rattle.plan_laws.specs.Hulls.{StripsUnlessWhole};
 
 use plan_model::windows_have_even_corners;
 

@@ -1,0 +1,12 @@
+pub mod Lists
+pub mod Views
+pub mod Phases
+pub mod Parts
+pub mod Ripe
+pub mod Left
+pub mod Falls
+pub mod Still
+pub mod Progress
+pub mod Settling
+pub mod Lines
+pub mod FlightLaws
