@@ -1,0 +1,12 @@
+pub mod Members
+pub mod Cells
+pub mod Places
+pub mod Parts
+pub mod Tiles
+pub mod Core
+pub mod Passes
+pub mod Levels
+pub mod Moves
+pub mod Starts
+pub mod Steps
+pub mod Growth
