@@ -108,7 +108,7 @@ holding a b each =
     ]
 
 -- ---- meets
-no_cell_of_empty : (i j : ℤ) → contains empty_region i j ≡ true → ⊥
+pub no_cell_of_empty : (i j : ℤ) → contains empty_region i j ≡ true → ⊥
 unfolding is_empty
 no_cell_of_empty i j t = none_in_empty empty_region i j refl t
 
@@ -127,10 +127,6 @@ spelled_cell r i j t =
       | inr e ↦ rw e at t
     ]
 
-spelled_again : (r : Region) (i j : ℤ) → contains r i j ≡ true → contains (spelled r) i j ≡ true
-unfolding spelled
-spelled_again r i j t = rw (some_cell r i j t) t
-
 in_left : (a b : Region) → Within a (both a b)
 unfolding both
 in_left a b = record { west = grind (arith, ints); east = grind (arith, ints); north = grind (arith, ints); south = grind (arith, ints) }
@@ -139,21 +135,8 @@ in_right : (a b : Region) → Within b (both a b)
 unfolding both
 in_right a b = record { west = grind (arith, ints); east = grind (arith, ints); north = grind (arith, ints); south = grind (arith, ints) }
 
-both_lies : (a b : Region) (i j : ℤ) → Lies a i j → Lies b i j → Lies (both a b) i j
-unfolding both
-both_lies a b i j h k = record {
-  west = grind (arith, ints);
-  east = grind (arith, ints);
-  north = grind (arith, ints);
-  south = grind (arith, ints);
-}
-
 pub met : (a b : Region) (i j : ℤ) → contains (meet a b) i j ≡ true → (contains a i j ≡ true) × (contains b i j ≡ true)
 met a b i j t =
     let cell : contains (both a b) i j ≡ true = spelled_cell (both a b) i j (subst (λ (r : Region). contains r i j ≡ true) (meet_is a b) t) in
     let there : Lies (both a b) i j = lies (both a b) i j cell in
     (lying a i j (held_cell a (both a b) (in_left a b) i j there), lying b i j (held_cell b (both a b) (in_right a b) i j there))
-
-pub meeting : (a b : Region) (i j : ℤ) → contains a i j ≡ true → contains b i j ≡ true → contains (meet a b) i j ≡ true
-meeting a b i j h k =
-    subst (λ (r : Region). contains r i j ≡ true) (sym (meet_is a b)) (spelled_again (both a b) i j (lying (both a b) i j (both_lies a b i j (lies a i j h) (lies b i j k))))

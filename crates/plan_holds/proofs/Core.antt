@@ -95,7 +95,7 @@ drawn_apart : Known → (st : State) → Core st → (p q : ℕ) (job : JobNote)
 drawn_apart known st core p q job frame h g i j i' j' here there e =
     let large : 4 ≤ st.k = core.size.low in
     let one : tile_of_cell st.k i j ≡ tile st.k job.piece = one_place_tile st.k i j i' j' e ∙ cell_tile known st.k job.piece i' j' (omega arith) (core.jobs p job h).in_block there in
-    true≢false (sym (meets known st.k (active_in frame job.level) (tile st.k job.piece) i j (omega arith) here one) ∙ core.unpinned p q job frame h g)
+    true≢false (sym (meets known.tiles st.k (active_in frame job.level) (tile st.k job.piece) i j (omega arith) here one) ∙ core.unpinned p q job frame h g)
 
 kept_job : Known → (st : State) → Core st → (p : ℕ) (job : JobNote) → HasJob st p job → IsJobKept st job
 kept_job known st core p job h =

@@ -135,7 +135,7 @@ none_left : {X : Type 0} (xs : List X) (x : X) → (length xs == 0) ≡ true →
 none_left [] x e h = h
 none_left (y ∷ ys) x e h = let none : length (y ∷ ys) ≡ 0 = eqb-true (length (y ∷ ys)) 0 e in absurd (omega arith)
 
-all_done : (st : State) (l : ℕ) (s : Region) → strip_at st l ≡ Some s → (length (unfinished_pieces st l) == 0) ≡ true → AreDone (now st l) s
+pub all_done : (st : State) (l : ℕ) (s : Region) → strip_at st l ≡ Some s → (length (unfinished_pieces st l) == 0) ≡ true → AreDone (now st l) s
 unfolding unfinished_pieces
 all_done st l s e none q h =
     true_from_ne_false (is_finished (level_at st l).finished q) (λ new. none_left (unfinished_pieces st l) q none (passing (λ piece. not (is_finished (level_at st l).finished piece)) (pieces_at st l) q (subst (λ (o : Option Region). Among q (strip_pieces o)) (sym e) h) (not_from_false (is_finished (level_at st l).finished q) new)))
@@ -150,7 +150,7 @@ grown_there known st l s h core e done =
     })
 
 -- a level that isn't there stays away
-absent : (st : State) (l : ℕ) (new : Level) → length st.levels ≤ l → with_level st l new ≡ st
+pub absent : (st : State) (l : ℕ) (new : Level) → length st.levels ≤ l → with_level st l new ≡ st
 absent st l new h = ap (λ (levels : List Level). record st { levels = levels }) (set_past st.levels l new h)
 
 grown_core : Known → (st : State) (l : ℕ) (s : Region) → Core st → strip_at st l ≡ Some s → AreDone (now st l) s → Core (grown st l s).state

@@ -10,3 +10,4 @@ pub mod Moves
 pub mod Starts
 pub mod Steps
 pub mod Growth
+pub mod Added

@@ -45,22 +45,22 @@ same_test false true e = e
 same_test false false e = refl
 
 -- ---- the state after a move
-abbrev after_move : State → ℤ → ℤ → ℕ → State
+abbrev pub after_move : State → ℤ → ℤ → ℕ → State
 after_move st x y a = record (seen_from st x y a) { levels = moved_levels st (seen_from st x y a) }
 
 -- whether a level stays
-abbrev keeps : State → ℤ → ℤ → ℕ → ℕ → Bool
+abbrev pub keeps : State → ℤ → ℤ → ℕ → ℕ → Bool
 keeps st x y a level = stays st (seen_from st x y a) level
 
 -- the level after the move
-abbrev level_then : State → ℤ → ℤ → ℕ → ℕ → Level
+abbrev pub level_then : State → ℤ → ℤ → ℕ → ℕ → Level
 level_then st x y a level = moved_level (keeps st x y a level) (window st.k level x y) (level_at st level)
 
-level_moved : (st : State) (x y : ℤ) (a level : ℕ) → level < length st.levels → level_at (after_move st x y a) level ≡ level_then st x y a level
+pub level_moved : (st : State) (x y : ℤ) (a level : ℕ) → level < length st.levels → level_at (after_move st x y a) level ≡ level_then st x y a level
 level_moved st x y a level h =
     get_or-map-range_with_len (level_then st x y a) 0 (length st.levels) level level empty_level h (omega arith)
 
-count_moved : (st : State) (x y : ℤ) (a : ℕ) → length (moved_levels st (seen_from st x y a)) ≡ length st.levels
+pub count_moved : (st : State) (x y : ℤ) (a : ℕ) → length (moved_levels st (seen_from st x y a)) ≡ length st.levels
 count_moved st x y a = length-map-range_with_len (level_then st x y a) 0 (length st.levels)
 
 now_moved : (st : State) (x y : ℤ) (a level : ℕ) → level < length st.levels → now (after_move st x y a) level ≡ level_by st.k (length st.levels) a level (window st.k level x y) (level_then st x y a level)
@@ -96,7 +96,7 @@ stayed st x y a level h t =
     now_moved st x y a level h ∙ level_used st.k (length st.levels) a level (window st.k level x y) (level_then st x y a level) ∙ ap (used_level (nat_le (finest_used st.k (length st.levels) a) level) (window st.k level x y)) it ∙ ap₂ (λ (used : Bool) (w : Region). used_level used w (level_at st level)) (sym same.1) (sym same.0) ∙ sym (level_used st.k (length st.levels) st.altitude level (window_at st level) (level_at st level)) ∙ sym (now_is st level)
 
 -- ---- a level that changes
-abbrev cut_level : Region → Level → Level
+abbrev pub cut_level : Region → Level → Level
 cut_level w old = record { filled = meet old.filled w; finished = []; plan = old.plan + 1 }
 
 strip_then : State → ℤ → ℤ → ℕ → ℕ → Option Region

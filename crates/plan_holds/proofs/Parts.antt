@@ -60,9 +60,6 @@ pub among_is : (finished : List Piece) (q r : Piece) → Among r finished → sa
 unfolding is_finished
 among_is finished q r h t = any_from (same_block q) finished r h t
 
-block_sym : (p q : Piece) → same_block p q ≡ true → same_block q p ≡ true
-block_sym p q t = let same : (p.bx ≡ q.bx) × (p.by ≡ q.by) = one_block p q t in block_itself q p (sym same.0) (sym same.1)
-
 block_trans : (p q r : Piece) → same_block p q ≡ true → same_block q r ≡ true → same_block p r ≡ true
 block_trans p q r t u =
     let a : (p.bx ≡ q.bx) × (p.by ≡ q.by) = one_block p q t in
@@ -103,6 +100,11 @@ current_block known strip q h = let s : (s : Region) × (strip ≡ Some s) × Am
 current_shared : Known → (strip : Option Region) (p q : Piece) (i j : ℤ) → Among p (strip_pieces strip) → Among q (strip_pieces strip) → contains p.cells i j ≡ true → contains q.cells i j ≡ true → same_block p q ≡ true
 current_shared known None p q i j h g t u = absurd h
 current_shared known (Some s) p q i j h g t u = shared_cell known s p q i j h g t u
+
+-- two pieces of one strip in one block are one
+pub current_one : Known → (strip : Option Region) (p q : Piece) → Among p (strip_pieces strip) → Among q (strip_pieces strip) → same_block p q ≡ true → p ≡ q
+current_one known None p q h g t = absurd h
+current_one known (Some s) p q h g t = one_piece known s p q h g t
 
 -- ---- a piece that is claimed
 pub claimed_job : Known → (k l : ℕ) (v : LevelNow) (q : Piece) → KeepsLevel k v → Among q (strip_pieces v.strip) → is_finished v.finished q ≡ false → KeepsJob k v (record { level = l; piece = q; plan = v.plan })
@@ -156,7 +158,7 @@ more_kept known k v q kept = record {
 }
 
 -- a finished piece is in the block of the one that was given back, or in that of an older one
-more_of : (v : LevelNow) (q p : Piece) → Among p (one_more v q).finished → (same_block p q ≡ true) ⊎ (is_finished v.finished p ≡ true)
+pub more_of : (v : LevelNow) (q p : Piece) → Among p (one_more v q).finished → (same_block p q ≡ true) ⊎ (is_finished v.finished p ≡ true)
 more_of v q p h =
     or_cases (same_block p q) (is_finished v.finished p) (passed (λ other. same_block other q || is_finished v.finished other) (strip_pieces v.strip) p h).1
 

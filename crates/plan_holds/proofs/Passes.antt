@@ -48,7 +48,7 @@ keeps_job_as st passes begun job h =
     subst (λ (v : LevelNow). KeepsJob st.k v job) (sym (same_now st passes begun job.level)) h
 
 -- ---- a pass becomes free
-none_some : (P : Type 0) {X : Type 0} (x : X) → None ≡ Some x → P
+pub none_some : (P : Type 0) {X : Type 0} (x : X) → None ≡ Some x → P
 none_some P x e = cc
 
 pub freed_job : (st : State) (p q : ℕ) (job : JobNote) → p < length st.passes → HasJob (with_pass st p Free) q job → (q ≡ p → ⊥) × HasJob st q job
@@ -78,7 +78,7 @@ freed_there st p h core = record {
 }
 
 -- a pass that isn't there stays away
-absent : (st : State) (p : ℕ) (w : Pass) → length st.passes ≤ p → with_pass st p w ≡ st
+pub absent : (st : State) (p : ℕ) (w : Pass) → length st.passes ≤ p → with_pass st p w ≡ st
 absent st p w h = ap (λ (passes : List Pass). record st { passes = passes }) (set_past st.passes p w h)
 
 -- where what holds is kept for a pass that is there, it is kept for any
@@ -151,7 +151,7 @@ offered st offer e =
     let level : (level : ℕ) × Among level (used_from_coarsest st) × Among offer (offers_of st level (strip_at st level)) = flat_of (λ level. offers_of st level (strip_at st level)) (used_from_coarsest st) offer (first_among (offers st) offer e) in
     offered_of st level.0 (strip_at st level.0) offer (used_below st level.0 level.1) refl level.2
 
-some_same : {X : Type 0} {x y : X} → Some x ≡ Some y → x ≡ y
+pub some_same : {X : Type 0} {x y : X} → Some x ≡ Some y → x ≡ y
 some_same e = cc
 
 -- the pass has the claimed job, and the other passes what they had

@@ -152,8 +152,8 @@ piece_with known r i j t =
     count_of (λ (p : Piece). contains p.cells i j) (pieces r) (omega (arith, one))
 
 -- a region meets the tile of each of its cells
-pub meets : Known → (k : ℕ) (r : Region) (t : TileId) (i j : ℤ) → 3 ≤ k → contains r i j ≡ true → tile_of_cell k i j ≡ t → meets_tile k r t ≡ true
-meets known k r t i j large here e = (known.tiles k r t large).1 (i, j, here, e)
+pub meets : TilesMetByCells → (k : ℕ) (r : Region) (t : TileId) (i j : ℤ) → 3 ≤ k → contains r i j ≡ true → tile_of_cell k i j ≡ t → meets_tile k r t ≡ true
+meets law k r t i j large here e = (law k r t large).1 (i, j, here, e)
 
 -- ---- strips
 in_window : (b : Bool) → 1 ≤ one_if b → b ≡ true

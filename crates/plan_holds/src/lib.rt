@@ -7,7 +7,9 @@
 #![tactic(auto)]
 
 mod after;
+mod changes;
 mod kept;
 
 pub use after::{histories_go_on, steps_go_on};
+pub use changes::{drawn_cells_are_at_home, steps_begin_frames, steps_fill_cells};
 pub use kept::{kept_at_the_start, kept_by_each_step, kept_by_histories};
