@@ -21,7 +21,7 @@ use Rattle.plan_model.specs.declared.events.Answer.TheVariants.{Job, Idle, Ripe,
 use Rattle.plan_laws.specs.Needs.{NeedsInCoarserWindows}
 use Rattle.plan_laws.specs.Hulls.{StripsInWindows, StripsUnlessWhole}
 use Rattle.plan_holds.specs.Kept.{HasJob, HasFrame, HoldsTile, active_in, IsKept}
-use Rattle.plan_holds.specs.Stuck.{coarsest_lacking, StuckPiecesAreBlocked, RestedPiecesAreOffered, IdleWhereSettled}
+use Rattle.plan_holds.specs.Stuck.{coarsest_lacking, IsAtRest, StuckPiecesAreBlocked, RestedPiecesAreOffered, IdleWhereSettled}
 use Rattle.plan_holds.proofs.Members.{Among, passed, passing, first_among, none_among, mapped, flat, flat_of, ranged_of, reversed, reversed_of}
 use Rattle.plan_holds.proofs.Cells.{held_in, holding}
 use Rattle.plan_holds.proofs.Parts.{tile, strip_of}
@@ -147,16 +147,13 @@ none_or_some None = inl refl
 none_or_some (Some x) = inr refl
 
 pub stuck_pieces : Known → StuckPiecesAreBlocked
-stuck_pieces known st level piece kept none e first =
+stuck_pieces known st level piece kept waits stuck =
     elim (none_or_some (blocked st level piece)) [
-      | inl free ↦ absurd (none_among (offers st) (offer_at level piece) none (unblocked_offer known st level piece kept e first free))
+      | inl free ↦ absurd (stuck (some_first (offers st) (offer_at level piece) (unblocked_offer known st level piece kept waits.lacking waits.first free)))
       | inr t ↦ t
     ]
 
 -- ---- where no pass has work, nothing is held or pinned
-abbrev IsAtRest : State → Type 0
-IsAtRest st = (p : ℕ) → has_work (pass_at st p) ≡ false
-
 no_work : (w : Pass) → has_work w ≡ false → (job_of w ≡ None) × (frame_of w ≡ None)
 no_work Free e = (refl, refl)
 no_work (Fills job) e = absurd (true≢false e)
@@ -194,8 +191,8 @@ none_blocked st level piece rest =
     ap (λ (o : Option ℕ). option_or (option_map (Held level (tile_of_piece st piece)) o) (option_or (busy_answer st level (tile_of_piece st piece)) (needed_answer st level piece))) (none_is_held st level (tile_of_piece st piece) rest) ∙ ap (λ (o : Option ℕ). option_or (option_map (Busy level (tile_of_piece st piece)) o) (needed_answer st level piece)) (none_is_pinned st level (tile_of_piece st piece) rest) ∙ none_needed st (level + 1) (first_of (held_needs st level piece)) rest
 
 pub rested_pieces : Known → RestedPiecesAreOffered
-rested_pieces known st level piece kept rest e first =
-    some_first (offers st) (offer_at level piece) (unblocked_offer known st level piece kept e first (none_blocked st level piece rest))
+rested_pieces known st level piece kept waits rest =
+    some_first (offers st) (offer_at level piece) (unblocked_offer known st level piece kept waits.lacking waits.first (none_blocked st level piece rest))
 
 -- ---- an answer Idle
 -- no answer that something blocks a piece is Idle
@@ -229,7 +226,7 @@ blocked_not_idle (Some answer) t h i = h answer refl i
 stuck_not_idle : Known → (st : State) (level : ℕ) (first : Option Piece) → IsKept st → first_of (offers st) ≡ None → coarsest_lacking st ≡ Some level → first_of (unfinished_pieces st level) ≡ first → ripe_or_blocked st level first ≡ Idle → ⊥
 stuck_not_idle known st level None kept none e first i = let ripe : Ripe level ≡ Idle = i in cc
 stuck_not_idle known st level (Some piece) kept none e first i =
-    blocked_not_idle (blocked st level piece) (stuck_pieces known st level piece kept none e first) (blocked_blocking st level piece) i
+    blocked_not_idle (blocked st level piece) (stuck_pieces known st level piece kept (record { lacking = e; first = first }) (λ t. true≢false (sym t ∙ ap (λ (o : Option Offer). is_some o) none))) (blocked_blocking st level piece) i
 
 -- every level in use is whole
 all_from : {X : Type 0} (p : X → Bool) (xs : List X) → ((x : X) → Among x xs → p x ≡ true) → list_all p xs ≡ true
