@@ -20,7 +20,7 @@ use Rattle.plan_model.specs.declared.events.Work.TheVariants.{Free, Fills, Draws
 use Rattle.plan_model.specs.declared.events.Event.{Event}
 use Rattle.plan_model.specs.declared.events.Event.TheVariants.{Move, Claim, Finish, Publish, Begin, End}
 use Rattle.plan_holds.specs.Kept.{HasJob, HasFrame, active_in}
-use Rattle.plan_holds.specs.Changes.{IsDone, IsGivenBack, StepsFillCells, IsBegun, StepsBeginFrames, DrawnCellsAtHome}
+use Rattle.plan_holds.specs.Changes.{AddsCells, StepsFillCells, IsBegun, StepsBeginFrames, DrawnCellsAtHome}
 use Rattle.plan_holds.proofs.Members.{Among, among_at, contained, passed}
 use Rattle.plan_holds.proofs.Cells.{no_cell_of_empty, held_in, met}
 use Rattle.plan_holds.proofs.Places.{Known, meets, hull_cell}
@@ -33,7 +33,7 @@ use Rattle.plan_holds.proofs.Moves.{after_move, keeps, level_then, cut_level, le
 
 -- ---- cells that are drawn
 pub drawn_cells : TilesMetByCells → DrawnCellsAtHome
-drawn_cells law st p frame level i j kept h t =
+drawn_cells law st p frame kept h level i j t =
     let large : 4 ≤ st.k = kept.size.low in
     let pinned : IsPinned st level (tile_of_cell st.k i j) = is_pinned_by st p level (tile_of_cell st.k i j) frame h (meets law st.k (active_in frame level) (tile_of_cell st.k i j) i j (omega arith) t refl) in
     (pinned, λ (held : IsHeld st level (tile_of_cell st.k i j)). kept.held level (tile_of_cell st.k i j) held pinned)
@@ -149,11 +149,6 @@ done_with st l new level i j h =
         | inr past ↦ inr (subst (λ (s : State). DoneIn (level_at s level) i j) (level_absent st l new past) h)
       ]
     ]
-
--- the cells that are done are those that were, or the event gave them back
-abbrev AddsCells : State → ℕ → Event → State → Type 0
-AddsCells st p event after =
-    (level : ℕ) (i j : ℤ) → IsDone after level i j → IsDone st level i j ⊎ IsGivenBack st p event level i j
 
 claimed_cells : (st : State) (p : ℕ) (offer : Option Offer) → AddsCells st p Claim (claimed st p offer).state
 claimed_cells st p None level i j h = inl h

@@ -50,7 +50,7 @@ fits known st level size i j i' j' here there e =
     known.fit st.k level st.x st.y i j i' j' (omega arith) here there e
 
 -- ---- from the public record
-unfinished : (st : State) (level : ℕ) (q : Piece) → Among q (unfinished_pieces st level) → Among q (pieces_at st level) × (is_finished (level_at st level).finished q ≡ false)
+pub unfinished : (st : State) (level : ℕ) (q : Piece) → Among q (unfinished_pieces st level) → Among q (pieces_at st level) × (is_finished (level_at st level).finished q ≡ false)
 unfolding unfinished_pieces
 unfinished st level q h =
     let both : Among q (pieces_at st level) × (not (is_finished (level_at st level).finished q) ≡ true) = passed (λ piece. not (is_finished (level_at st level).finished piece)) (pieces_at st level) q h in

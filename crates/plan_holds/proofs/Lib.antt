@@ -11,3 +11,4 @@ pub mod Starts
 pub mod Steps
 pub mod Growth
 pub mod Added
+pub mod Blocked

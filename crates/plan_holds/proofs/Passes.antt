@@ -117,7 +117,7 @@ claimable st level q t =
 abbrev level_tile : ℕ → TileId → LevelTile
 level_tile level t = record { level = level; tile = t }
 
-abbrev offer_at : ℕ → Piece → Offer
+abbrev pub offer_at : ℕ → Piece → Offer
 offer_at level q = record { level = level; piece = q }
 
 offered_piece : (st : State) (level : ℕ) (strip : Region) (offer : Offer) → Among offer (offers_of st level (Some strip)) → (q : Piece) × Among q (pieces strip) × (is_claimable st level q ≡ true) × (offer_at level q ≡ offer)
@@ -138,7 +138,7 @@ offered_of st level (Some strip) offer l e h =
     let free : IsFree st level q.0 = claimable st level q.0 q.2 in
     subst (IsOffered st) q.3 (record { there = l; current = subst (λ (o : Option Region). Among q.0 (strip_pieces o)) e q.1; new = free.new; unheld = free.unheld; unpinned = free.unpinned })
 
-used_below : (st : State) (level : ℕ) → Among level (used_from_coarsest st) → level < length st.levels
+pub used_below : (st : State) (level : ℕ) → Among level (used_from_coarsest st) → level < length st.levels
 used_below st level h =
     let both : (finest_at st ≤ level) × (level < finest_at st + (length st.levels - finest_at st)) = ranged_of (finest_at st) (length st.levels - finest_at st) level (reversed_of (range_with_len (finest_at st) (length st.levels - finest_at st)) level h) in
     let low : finest_at st ≤ level = both.0 in

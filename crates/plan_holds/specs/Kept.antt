@@ -43,6 +43,10 @@ AreOfStrip st level = finished_at st level ≡ filter (is_finished (finished_at 
 abbrev pub IsInOtherTile : State → Piece → Piece → Type 0
 IsInOtherTile st one piece = ¬ (tile_of_piece st piece ≡ tile_of_piece st one)
 
+-- no cell that a frame draws on the job's level has the wrapped place of one of the job's cells
+abbrev pub IsDrawnApart : State → OpenFrame → JobNote → Type 0
+IsDrawnApart st frame job = AreApart st.k (active_in frame job.level) job.piece.cells
+
 -- what is true of a pass's job, between any two events
 pub record IsJobKept (st : State) (job : JobNote) : Type 0 where
   -- its level is there, and its cells lie in its block
@@ -56,7 +60,7 @@ pub record IsJobKept (st : State) (job : JobNote) : Type 0 where
   -- no cell that is filled, finished or drawn on its level has the wrapped place of one of its cells
   pub filled : AreApart st.k (filled_at st job.level) job.piece.cells
   pub finished : All (λ piece. AreApart st.k piece.cells job.piece.cells) (finished_at st job.level)
-  pub drawn : (p : ℕ) (frame : OpenFrame) → HasFrame st p frame → AreApart st.k (active_in frame job.level) job.piece.cells
+  pub drawn : (p : ℕ) (frame : OpenFrame) → HasFrame st p frame → IsDrawnApart st frame job
 
 -- what is true of a state, between any two events of a book
 pub record IsKept (st : State) : Type 0 where
@@ -69,6 +73,6 @@ pub record IsKept (st : State) : Type 0 where
   pub held : (level : ℕ) (t : TileId) → IsHeld st level t → ¬ IsPinned st level t
   -- open frames have different numbers below the count of frames
   pub number : (p : ℕ) (frame : OpenFrame) → HasFrame st p frame → frame.number < st.begun
-  pub one_frame : (p q : ℕ) (one other : OpenFrame) → HasFrame st p one → HasFrame st q other → one.number ≡ other.number → p ≡ q
+  pub one_frame : (p q : ℕ) (a b : OpenFrame) → HasFrame st p a → HasFrame st q b → a.number ≡ b.number → p ≡ q
   -- each job is as above
   pub jobs : (p : ℕ) (job : JobNote) → HasJob st p job → IsJobKept st job

@@ -9,7 +9,11 @@
 mod after;
 mod changes;
 mod kept;
+mod stuck;
 
 pub use after::{histories_go_on, steps_go_on};
 pub use changes::{drawn_cells_are_at_home, steps_begin_frames, steps_fill_cells};
 pub use kept::{kept_at_the_start, kept_by_each_step, kept_by_histories};
+pub use stuck::{
+    claims_are_idle_where_settled, rested_pieces_are_offered, stuck_pieces_are_blocked,
+};

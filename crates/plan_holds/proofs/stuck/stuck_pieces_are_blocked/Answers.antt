@@ -1,0 +1,10 @@
+use Rattle.plan_holds.proofs.Blocked.{stuck_pieces}
+use Rattle.plan_holds.proofs.stuck.stuck_pieces_are_blocked.Goals as goal
+
+pub returns : goal.returns
+returns c =
+    stuck_pieces (record {
+      needs = c.needs_lie_in_coarser_windows.ensures;
+      strips = c.strips_lie_in_windows.ensures;
+      whole = c.strips_are_there_unless_whole.ensures;
+    })
