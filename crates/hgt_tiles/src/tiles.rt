@@ -87,7 +87,8 @@ impl HgtTile {
     /// The heights in metres of row `y` from the north, from west to east.
     pub fn row(&self, y: u32) -> &[i16]
         requires { y < self.now.terrain.height }
-        ensures { result.now ≡ slice_range self.now.terrain.table (y * self.now.terrain.width) ((y + 1) * self.now.terrain.width) }
+        ensures value { result.now ≡ slice_range self.now.terrain.table (y * self.now.terrain.width) ((y + 1) * self.now.terrain.width) }
+        ensures length { length result.now ≡ self.now.terrain.width }
     {
         let first = y as usize * self.side as usize;
         &self.heights[first..first + self.side as usize]
