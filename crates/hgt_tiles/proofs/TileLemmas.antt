@@ -1,5 +1,5 @@
 -- Rows of samples that are read one after another while their voids are filled, and the square that they make.
-use Rattle.std.proofs.Common.{◌≡◌, ℕ, ℤ, pos, zero, suc, ◌+◌, ◌-◌, ◌*◌, ◌<◌, ◌≤◌, ◌^◌, Bool, true, false, not, cond, [], ◌∷◌, ◌++◌, List, length, get_or, map, flat_map, find, reverse, take, drop, Option, Some, None, unwrap_or, option_map, count_by, All, FitsSigned, append_assoc, add-zero, zero-add, ap, ◌∙◌, sym, subst, refl, arith}
+use Rattle.std.proofs.Common.{◌≡◌, ℕ, ℤ, pos, zero, suc, ◌+◌, ◌-◌, ◌*◌, ◌<◌, ◌≤◌, ◌^◌, Bool, true, false, not, cond, [], ◌∷◌, ◌++◌, List, length, get_or, map, flat_map, find, reverse, take, drop, Option, Some, None, unwrap_or, option_map, count_by, All, FitsSigned, append_assoc, zero-add, ap, ◌∙◌, sym, subst, refl, arith}
 use Rattle.std.specs.Int.{w16}
 use Rattle.std.specs.Option.{option_or}
 use Rattle.std.specs.List.{range_with_len}

@@ -1,5 +1,5 @@
 -- Parts of rows that are painted over.
-use Rattle.std.proofs.Common.{◌≡◌, ℕ, ◌+◌, ◌-◌, ◌*◌, ◌<◌, ◌≤◌, ◌≤ℤ◌, Bool, true, false, ◌&&◌, cond, List, [], ◌∷◌, ◌++◌, length, get_or, take, drop, fold, map, flat_map, zero, suc, zero-add, ℤ, pos, refl, ap, sym, subst, ◌∙◌, ⊎_elim, arith, ltb, leb, length-append, All, slice_range}
+use Rattle.std.proofs.Common.{◌≡◌, ℕ, ◌+◌, ◌-◌, ◌*◌, ◌<◌, ◌≤◌, ◌≤ℤ◌, true, false, ◌&&◌, cond, List, [], ◌∷◌, ◌++◌, length, get_or, take, drop, fold, flat_map, zero, suc, zero-add, ℤ, pos, refl, ap, sym, ◌∙◌, ⊎_elim, arith, ltb, leb, slice_range}
 use Rattle.std.specs.Int.{int_gap}
 use Rattle.std.specs.List.{range_with_len}
 use Rattle.std.proofs.lemmas.Int.{ints}
@@ -60,23 +60,23 @@ part_at row part left x fits inside =
     let front : length (take left row) ≡ left = length-take-le left row (omega (arith, fits)) in
     ⊎_elim
     (λ (west : x < left).
-      let in_front : x < length (take left row) = omega (arith, front, west) in
-      let out : leb left x ≡ false = grind (arith, nat_tests) in
-      get_or_append_left (take left row) (part ++ drop (left + length part) row) (pos 0) x in_front ∙ get_or-take left row x (pos 0) west ∙ rw out refl)
+    let in_front : x < length (take left row) = omega (arith, front, west) in
+    let out : leb left x ≡ false = grind (arith, nat_tests) in
+    get_or_append_left (take left row) (part ++ drop (left + length part) row) (pos 0) x in_front ∙ get_or-take left row x (pos 0) west ∙ rw out refl)
     (λ (east : left ≤ x).
-      let there : leb left x ≡ true = grind (arith, nat_tests) in
-      let later : get_or (take left row ++ (part ++ drop (left + length part) row)) x (pos 0) ≡ get_or (part ++ drop (left + length part) row) (x - left) (pos 0) =
-      get_or-append_right (take left row) (part ++ drop (left + length part) row) left x (pos 0) front east in
-      ⊎_elim
-      (λ (inner : x < left + length part).
-        let inner_too : ltb x (left + length part) ≡ true = grind (arith, nat_tests) in
-        later ∙ get_or_append_left part (drop (left + length part) row) (pos 0) (x - left) (omega (arith, inner, east)) ∙ rw (there, inner_too) refl)
-      (λ (outer : left + length part ≤ x).
-        let out : ltb x (left + length part) ≡ false = grind (arith, nat_tests) in
-        let back : left + length part + (x - left - length part) ≡ x = omega (arith, outer) in
-        later ∙ get_or-append_right part (drop (left + length part) row) (length part) (x - left) (pos 0) refl (omega (arith, outer))
-        ∙ get_or-drop (left + length part) row (x - left - length part) (pos 0) ∙ rw (back, there, out) refl)
-      (cases_lt x (left + length part)))
+    let there : leb left x ≡ true = grind (arith, nat_tests) in
+    let later : get_or (take left row ++ (part ++ drop (left + length part) row)) x (pos 0) ≡ get_or (part ++ drop (left + length part) row) (x - left) (pos 0) =
+    get_or-append_right (take left row) (part ++ drop (left + length part) row) left x (pos 0) front east in
+    ⊎_elim
+    (λ (inner : x < left + length part).
+    let inner_too : ltb x (left + length part) ≡ true = grind (arith, nat_tests) in
+    later ∙ get_or_append_left part (drop (left + length part) row) (pos 0) (x - left) (omega (arith, inner, east)) ∙ rw (there, inner_too) refl)
+    (λ (outer : left + length part ≤ x).
+    let out : ltb x (left + length part) ≡ false = grind (arith, nat_tests) in
+    let back : left + length part + (x - left - length part) ≡ x = omega (arith, outer) in
+    later ∙ get_or-append_right part (drop (left + length part) row) (length part) (x - left) (pos 0) refl (omega (arith, outer))
+    ∙ get_or-drop (left + length part) row (x - left - length part) (pos 0) ∙ rw (back, there, out) refl)
+    (cases_lt x (left + length part)))
     (cases_lt x left)
 
 -- ---- a tile's row
@@ -152,6 +152,6 @@ row_more bounds tiles y old new row before appended painted =
         let f : a + suc n ≡ a + 1 + n = omega arith in
         rw (e, f) (ap (λ xs. a ∷ xs) (range_more (a + 1) n))
 
--- the buffer of a row after it was written as a slice
-pub row_buffer : (n : ℕ) (row rest : List ℤ) → length row ≡ n → take n (row ++ rest) ≡ row
-row_buffer n row rest long = ap (λ m. take m (row ++ rest)) (sym long) ∙ take-append-le (length row) row rest (omega arith) ∙ take_all (length row) row (omega arith)
+-- a vector after it was written as a slice
+pub buffer_is : {X : Type 0} (n : ℕ) (row rest : List X) → length row ≡ n → take n (row ++ rest) ≡ row
+buffer_is n row rest long = ap (λ m. take m (row ++ rest)) (sym long) ∙ take-append-le (length row) row rest (omega arith) ∙ take_all (length row) row (omega arith)

@@ -1,5 +1,5 @@
 -- The rectangle of degrees round a set of tiles, tile by tile.
-use Rattle.std.specs.Prelude.{ℕ, ◌≤◌, ◌≤ℤ◌}
+use Rattle.std.specs.Prelude.{◌≤◌, ◌≤ℤ◌}
 use Rattle.std.specs.Int.{int_min, int_max}
 use Rattle.terrain_model.specs.Mosaic.{Bounds}
 use Rattle.hgt_tiles.specs.TileView.{TileView}

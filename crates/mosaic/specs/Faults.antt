@@ -1,5 +1,5 @@
 -- Which sets of tiles make no mosaic, and why: the first of the causes in their order.
-use Rattle.std.specs.Prelude.{ℕ, ◌*◌, ◌^◌, Bool, not, ◌&&◌, ◌==◌, List, [], ◌∷◌, ◌++◌, map, find, int_le, nat_lt, Option, Some, None, if◌then◌else◌}
+use Rattle.std.specs.Prelude.{◌≡◌, ℕ, ◌*◌, ◌^◌, Bool, not, ◌&&◌, ◌==◌, List, [], ◌∷◌, ◌++◌, map, find, int_le, nat_lt, Option, Some, None, if◌then◌else◌}
 use Rattle.std.specs.List.{list_any}
 use Rattle.terrain_model.specs.Mosaic.{Bounds, bounds_of, mosaic_width, mosaic_height}
 use Rattle.hgt_tiles.specs.TileView.{TileView, placed}
@@ -20,6 +20,11 @@ twin_after earlier (tile ∷ rest) =
 -- the first side that isn't this one
 unfoldable pub other_side : ℕ → List TileView → Option ℕ
 other_side first tiles = find (λ side. not (side == first)) (map (λ tile. tile.terrain.width) tiles)
+
+-- the tile is a square of this side
+pub record HasSide (side : ℕ) (tile : TileView) : Type 0 where
+  pub columns : tile.terrain.width ≡ side
+  pub rows : tile.terrain.height ≡ side
 
 -- how many samples the rectangle round some tiles has
 unfoldable pub sample_count : Bounds → ℕ

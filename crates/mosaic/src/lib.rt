@@ -7,6 +7,11 @@
 
 mod extent;
 mod fault;
+mod joining;
 mod painting;
 
 pub use fault::MosaicFault;
+pub use joining::join;
+
+#[cfg(test)]
+mod tests;

@@ -1,6 +1,6 @@
 //! Tiles painted one over another into the rows of a grid.
 
-ghost use Rattle.std.specs.Prelude.{◌≡◌, ◌≤◌, ◌+◌, ◌*◌, ◌^◌, length, flat_map, All, IfOk};
+ghost use Rattle.std.specs.Prelude.{◌≡◌, ◌≤◌, ◌+◌, ◌*◌, ◌^◌, length, vec_len, flat_map, All, IfOk};
 ghost use Rattle.std.specs.List.{range_with_len};
 ghost use Rattle.std.specs.List.Sorted.{IsPermutation};
 ghost use Rattle.std.specs.Ordering.{is_lt};
@@ -37,12 +37,15 @@ fn painting_order(tile: &HgtTile, other: &HgtTile) -> Ordering
     }
 }
 
-/// Brings tiles into the order in which they are painted.
-pub(crate) fn sort_for_painting(tiles: &mut [HgtTile])
-    ensures permutation { IsPermutation tiles.old tiles.new }
-    ensures order { IsInOrder tiles.new }
+/// The tiles in the order in which they are painted.
+pub(crate) fn sorted_for_painting(mut tiles: Vec<HgtTile>) -> Vec<HgtTile>
+    ensures permutation { IsPermutation tiles.items result.items }
+    ensures order { IsInOrder result.items }
 {
-    tiles.sort_unstable_by(|tile, other| painting_order(tile, other));
+    tiles
+        .as_mut_slice()
+        .sort_unstable_by(|tile, other| painting_order(tile, other));
+    tiles
 }
 
 // Writes a part into a row from place `left` on.
@@ -88,7 +91,8 @@ pub(crate) fn paint(
 ) -> Result<Vec<i16>, AllocError>
     requires placed { All (IsPlacedIn extent.now) tiles.now }
     requires few { mosaic_width extent.now * mosaic_height extent.now ≤ 2 ^ 26 }
-    ensures { IfOk result (λ heights. heights.items ≡ flat_map (painted_row extent.now tiles.now) (range_with_len 0 (mosaic_height extent.now))) }
+    ensures rows { IfOk result (λ heights. heights.items ≡ flat_map (painted_row extent.now tiles.now) (range_with_len 0 (mosaic_height extent.now))) }
+    ensures whole { IfOk result (λ heights. vec_len heights ≡ mosaic_width extent.now * mosaic_height extent.now) }
 {
     let width = extent.width() as usize;
     let height = extent.height() as usize;

@@ -1,5 +1,5 @@
 -- The heights of a tile, and of a level and the next coarser one.
-use Rattle.std.proofs.Common.{◌≡◌, ℕ, ◌+◌, ◌*◌, ◌^◌, ◌<◌, ◌≤◌, ◌&&◌, Bool, true, cond, List, length, get_or, map, flat_map, refl, ap, sym, subst, ◌∙◌, ⊎_elim, zero-add, lit<, arith, ltb, All, pos, negsuc, ℤ, ◌*ℤ◌, slice_index}
+use Rattle.std.proofs.Common.{◌≡◌, ℕ, ◌+◌, ◌*◌, ◌^◌, ◌<◌, ◌≤◌, ◌&&◌, Bool, true, cond, List, length, get_or, flat_map, refl, ap, sym, subst, ◌∙◌, ⊎_elim, zero-add, lit<, arith, ltb, All, pos, negsuc, ℤ, ◌*ℤ◌, slice_index}
 use Rattle.std.specs.Prelude.{FitsSigned}
 use Rattle.std.specs.Int.{w16}
 use Rattle.std.specs.List.{range_with_len}
@@ -11,7 +11,6 @@ use Rattle.std.proofs.Math.Nat.{mul-le-mul}
 use Rattle.std.proofs.lemmas.Bool.{cases_lt}
 use Rattle.std.proofs.lemmas.Grind.{common_steps}
 use Rattle.std.proofs.lemmas.List.{get_or_past}
-use Rattle.std.proofs.lemmas.Nat.{mul-add-lt}
 use Rattle.terrain_model.specs.Terrain.{Terrain, IsTerrain, height_at, level_height}
 use Rattle.terrain_model.specs.Voids.{known_at, without_voids}
 use Rattle.terrain_model.specs.Tile.{signed_pair, raw_sample, samples_from, tile_row, tile_terrain}

@@ -1,4 +1,4 @@
-use Rattle.std.proofs.Common.{◌≡◌, ◌+◌, ◌<◌, [], ◌∷◌, ◌++◌, true, false, map, get_or, length, FitsSigned, append-nil, subst, sym, ap, ◌∙◌, List, ℤ, pos, arith, rules, refl}
+use Rattle.std.proofs.Common.{◌≡◌, ◌+◌, ◌<◌, ◌++◌, true, false, map, get_or, length, FitsSigned, append-nil, subst, sym, ap, ◌∙◌, pos, arith, rules, refl}
 use Rattle.std.specs.Int.{w16}
 use Rattle.std.specs.List.{range_with_len}
 use Rattle.std.proofs.lemmas.Int.{to_z-of_z}

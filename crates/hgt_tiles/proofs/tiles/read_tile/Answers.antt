@@ -1,4 +1,4 @@
-use Rattle.std.proofs.Common.{◌≡◌, ◌<◌, All, refl, sym, arith}
+use Rattle.std.proofs.Common.{◌<◌, refl, sym, arith}
 use Rattle.std.proofs.lemmas.List.Elements.{All-from_get_or}
 use Rattle.terrain_model.specs.Tile.{tile_terrain}
 use Rattle.hgt_tiles.proofs.TileLemmas.{square_is_tile, tile_is}

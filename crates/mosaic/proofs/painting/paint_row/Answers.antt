@@ -1,4 +1,4 @@
-use Rattle.std.proofs.Common.{◌≡◌, ◌∙◌, ℕ, ℤ, pos, List, length, replicate, get_or, ap, sym, subst, rules, arith}
+use Rattle.std.proofs.Common.{◌≡◌, ◌∙◌, pos, length, replicate, get_or, ap, subst, rules, arith}
 use Rattle.std.proofs.lemmas.List.{get_or-replicate}
 use Rattle.hgt_tiles.specs.TileView.{TileView}
 use Rattle.mosaic.specs.Painting.{IsPainted}

@@ -1,5 +1,4 @@
-use Rattle.std.proofs.Common.{◌≡◌, ◌∙◌, ◌+◌, ◌-◌, ◌*◌, ◌<◌, ◌≤◌, ℤ, ℕ, List, false, length, ap, sym, subst, slice_range, arith}
-use Rattle.std.proofs.lemmas.Bool.Decides.{nat_tests}
+use Rattle.std.proofs.Common.{◌≡◌, ◌∙◌, ◌+◌, ◌-◌, ◌*◌, ℤ, List, false, ap, sym, subst, slice_range, arith}
 use Rattle.terrain_model.specs.Mosaic.{left_of, top_of, is_among}
 use Rattle.hgt_tiles.specs.TileView.{placed}
 use Rattle.mosaic.specs.Painting.{IsPainted, with_part}

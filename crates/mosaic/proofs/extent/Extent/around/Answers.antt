@@ -1,4 +1,4 @@
-use Rattle.std.proofs.Common.{◌≡◌, ◌∙◌, ap, take, take_all, fold, arith}
+use Rattle.std.proofs.Common.{◌≡◌, ◌∙◌, ap, take_all, fold, arith}
 use Rattle.mosaic.specs.Extents.{extent_of_one, widened}
 use Rattle.mosaic.proofs.Extents.{around_is}
 use Rattle.mosaic.proofs.extent.Extent.around.Goals as goal
