@@ -76,6 +76,22 @@ fn samples_are_signed_and_voids_are_counted(rt: HostRuntime) -> Result<(), Fail>
     assert_eq!(rt; tile.side(), 3);
     assert_eq!(rt; tile.voids(), 1);
     assert_eq!(rt; tile.height(0, 0), -200);
-    assert_eq!(rt; tile.height(1, 0), -32768);
+    assert_eq!(rt; tile.height(1, 0), -200);
+    Ok(())
+}
+
+#[test]
+fn voids_take_the_nearest_height_in_their_row(rt: HostRuntime) -> Result<(), Fail> {
+    // V V V / V 5 V / 7 V 9, where V is a void.
+    let bytes = [
+        0x80, 0, 0x80, 0, 0x80, 0, 0x80, 0, 0, 5, 0x80, 0, 0, 7, 0x80, 0, 0, 9,
+    ];
+    let tile = read_tile(rt.alloc(), Corner { lat: 0, lon: 0 }, &bytes)?;
+    assert_eq!(rt; tile.side(), 3);
+    assert_eq!(rt; tile.voids(), 6);
+    let rows = [[0, 0, 0], [5, 5, 5], [7, 7, 9]];
+    assert_eq!(rt; tile.row(0), rows[0].as_slice());
+    assert_eq!(rt; tile.row(1), rows[1].as_slice());
+    assert_eq!(rt; tile.row(2), rows[2].as_slice());
     Ok(())
 }

@@ -1,16 +1,15 @@
 //! The bytes of HGT tiles.
 
-ghost use Rattle.std.specs.Prelude.{◌≡◌, ℕ, ◌+◌, ◌*◌, ◌/◌, ◌<◌, ◌≤◌, length, pos, map, count_by, FitsSigned, All, IfSome, IfOk, IfErr, Some, None};
-ghost use Rattle.std.specs.Int.{w16};
-ghost use Rattle.std.specs.List.{range_with_len};
-ghost use Rattle.terrain_model.specs.Tile.{raw_sample, side_of_length, is_void};
+ghost use Rattle.std.specs.Prelude.{◌≡◌, ℕ, ◌+◌, ◌*◌, ◌<◌, ◌≤◌, ◌++◌, length, pos, count_by, IfSome, IfOk, IfErr, OnOk, Some, None, slice_range};
+ghost use Rattle.terrain_model.specs.Voids.{is_void, first_known, without_voids};
+ghost use Rattle.terrain_model.specs.Tile.{raw_sample, samples_from, side_of_length, tile_terrain, void_count};
 ghost use Rattle.hgt_tiles.specs.TileView.{tile_of_bytes, IsTile};
 ghost use Rattle.hgt_tiles.specs.Fault.{HasCause};
 
 use byteorder::{BigEndian, ByteOrder};
 use std::alloc::{AllocError, Global};
 use std::marker::Model;
-use terrain_model::Corner;
+use terrain_model::{Corner, tile_is_terrain};
 use thiserror::Error;
 
 /// The sample that marks a place without a height.
@@ -84,9 +83,19 @@ impl HgtTile {
     {
         self.heights[y as usize * self.side as usize + x as usize]
     }
+
+    /// The heights in metres of row `y` from the north, from west to east.
+    pub fn row(&self, y: u32) -> &[i16]
+        requires { y < self.now.terrain.height }
+        ensures value { result.now ≡ slice_range self.now.terrain.table (y * self.now.terrain.width) ((y + 1) * self.now.terrain.width) }
+        ensures length { length result.now ≡ self.now.terrain.width }
+    {
+        let first = y as usize * self.side as usize;
+        &self.heights[first..first + self.side as usize]
+    }
 }
 
-/// The samples of a tile, and how many of them are voids.
+// The heights of a tile, and how many of its samples are voids.
 #[derive(Drop)]
 struct Samples {
     heights: Vec<i16>,
@@ -95,9 +104,10 @@ struct Samples {
 
 /// Reads a tile from the bytes of an HGT file, with its south-west corner at `corner`.
 ///
-/// Voids, the samples -32768, are kept as they are and counted. A length that isn't 2 * N * N bytes
-/// for a side N of 3 to 3601 is a `BadLength`.
-#[tactic(auto, unfolding(crate::specs::TileView::tile_of_bytes, crate::specs::TileView::tile_at, terrain_model::specs::Tile::tile_terrain, terrain_model::specs::Tile::void_count))]
+/// Voids, the samples -32768, are counted, and each takes the height of the nearest sample to its west in
+/// its row that is none; where there is none, of the nearest to its east; where the whole row is void, 0. A
+/// length that isn't 2 * N * N bytes for a side N of 3 to 3601 is a `BadLength`.
+#[tactic(auto, unfolding(crate::specs::TileView::tile_of_bytes, crate::specs::TileView::tile_at))]
 pub fn read_tile(alloc: Global, corner: Corner, bytes: &[u8]) -> Result<HgtTile, TileFault>
     ensures tile { IfOk result (λ tile. tile_of_bytes corner bytes.now ≡ Some tile) }
     ensures square { IfOk result (λ tile. IsTile tile.terrain) }
@@ -108,6 +118,7 @@ pub fn read_tile(alloc: Global, corner: Corner, bytes: &[u8]) -> Result<HgtTile,
     let Some(side) = side_of(length) else {
         return Err(TileFault::BadLength { length });
     };
+    tile_is_terrain();
     match read_samples(alloc, bytes, side) {
         Ok(samples) => Ok(HgtTile {
             corner,
@@ -119,7 +130,7 @@ pub fn read_tile(alloc: Global, corner: Corner, bytes: &[u8]) -> Result<HgtTile,
     }
 }
 
-/// The side of a tile of this many bytes, if there is one.
+// The side of a tile of this many bytes, if there is one.
 #[tactic(auto, unfolding(terrain_model::specs::Tile::side_of_length, terrain_model::specs::Tile::tile_sides))]
 fn side_of(length: u64) -> Option<u32>
     ensures value { result ≡ side_of_length length }
@@ -130,28 +141,66 @@ fn side_of(length: u64) -> Option<u32>
     (3..3602).find(|side: &u32| 2 * u64::from(*side) * u64::from(*side) == length)
 }
 
-/// Reads `side * side` samples, and counts the voids among them.
+// Reads `side` rows of `side` samples: their heights with all voids filled, and how many voids there are.
 fn read_samples(alloc: Global, bytes: &[u8], side: u32) -> Result<Samples, AllocError>
     requires high { side ≤ 3601 }
     requires whole { length bytes.now ≡ 2 * (side * side) }
-    ensures heights { IfOk result (λ s. s.heights.items ≡ map (raw_sample bytes.now) (range_with_len 0 (side * side))) }
-    ensures voids { IfOk result (λ s. s.voids ≡ count_by is_void s.heights.items) }
-    ensures short { IfOk result (λ s. All (FitsSigned w16) s.heights.items) }
+    ensures heights { IfOk result (λ s. s.heights.items ≡ (tile_terrain bytes.now side).table) }
+    ensures voids { IfOk result (λ s. s.voids ≡ void_count bytes.now side) }
 {
-    let count = side as usize * side as usize;
-    let mut heights = Vec::with_capacity(alloc, count)?;
+    let side = side as usize;
+    let mut heights = Vec::with_capacity(alloc, side * side)?;
     let mut voids = 0u64;
-    for n in 0..count {
-        let sample = sample_at(bytes, n);
-        heights.push(sample)?;
-        if is_void(sample) {
-            voids += 1;
-        }
+    for v in 0..side {
+        voids += append_row(bytes, v * side, side, &mut heights)?;
     }
     Ok(Samples { heights, voids })
 }
 
-/// Sample number `n` of a tile, two bytes, the high byte first.
+// Appends the heights of the row of `side` samples from sample `first` on, with its voids filled. Gives how many
+// voids it has.
+fn append_row(
+    bytes: &[u8],
+    first: usize,
+    side: usize,
+    heights: &mut Vec<i16>,
+) -> Result<u64, AllocError>
+    requires side { side ≤ 3601 }
+    requires whole { 2 * (first + side) ≤ length bytes.now }
+    ensures heights { OnOk result (heights.new.items ≡ heights.old.items ++ without_voids (samples_from bytes.now first side)) }
+    ensures voids { IfOk result (λ voids. voids ≡ count_by is_void (samples_from bytes.now first side)) }
+    ensures few { IfOk result (λ voids. voids ≤ side) }
+{
+    let mut known = first_known(bytes, first, side);
+    let mut voids = 0u64;
+    for n in 0..side {
+        let sample = sample_at(bytes, first + n);
+        if is_void(sample) {
+            voids += 1;
+        } else {
+            known = sample;
+        }
+        heights.push(known)?;
+    }
+    Ok(voids)
+}
+
+// The first of `side` samples from sample `first` on that is no void, and 0 where all are voids.
+fn first_known(bytes: &[u8], first: usize, side: usize) -> i16
+    requires side { side ≤ 3601 }
+    requires whole { 2 * (first + side) ≤ length bytes.now }
+    ensures { result ≡ first_known (samples_from bytes.now first side) }
+{
+    for n in 0..side {
+        let sample = sample_at(bytes, first + n);
+        if !is_void(sample) {
+            return sample;
+        }
+    }
+    0
+}
+
+// Sample number `n` of a tile, two bytes, the high byte first.
 #[tactic(auto, unfolding(terrain_model::specs::Tile::raw_sample, terrain_model::specs::Tile::signed_pair))]
 fn sample_at(bytes: &[u8], n: usize) -> i16
     requires { 2 * n + 1 < length bytes.now }
@@ -160,8 +209,8 @@ fn sample_at(bytes: &[u8], n: usize) -> i16
     BigEndian::read_i16(&bytes[2 * n..])
 }
 
-/// Is `sample` a void?
-#[tactic(auto, unfolding(terrain_model::specs::Tile::is_void))]
+// Is `sample` a void?
+#[tactic(auto, unfolding(terrain_model::specs::Voids::is_void))]
 fn is_void(sample: i16) -> bool
     ensures { result ≡ is_void sample }
 {

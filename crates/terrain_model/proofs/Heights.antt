@@ -1,5 +1,5 @@
 -- The heights of a tile, and of a level and the next coarser one.
-use Rattle.std.proofs.Common.{◌≡◌, ℕ, ◌+◌, ◌*◌, ◌^◌, ◌<◌, ◌≤◌, ◌&&◌, Bool, true, cond, List, length, get_or, map, refl, ap, ◌∙◌, ⊎_elim, lit<, arith, ltb, All, pos, negsuc, ℤ, ◌*ℤ◌, slice_index}
+use Rattle.std.proofs.Common.{◌≡◌, ℕ, ◌+◌, ◌*◌, ◌^◌, ◌<◌, ◌≤◌, ◌&&◌, Bool, true, cond, List, length, get_or, flat_map, refl, ap, sym, subst, ◌∙◌, ⊎_elim, zero-add, lit<, arith, ltb, All, pos, negsuc, ℤ, ◌*ℤ◌, slice_index}
 use Rattle.std.specs.Prelude.{FitsSigned}
 use Rattle.std.specs.Int.{w16}
 use Rattle.std.specs.List.{range_with_len}
@@ -11,19 +11,32 @@ use Rattle.std.proofs.Math.Nat.{mul-le-mul}
 use Rattle.std.proofs.lemmas.Bool.{cases_lt}
 use Rattle.std.proofs.lemmas.Grind.{common_steps}
 use Rattle.std.proofs.lemmas.List.{get_or_past}
-use Rattle.std.proofs.lemmas.Nat.{mul-add-lt}
 use Rattle.terrain_model.specs.Terrain.{Terrain, IsTerrain, height_at, level_height}
-use Rattle.terrain_model.specs.Tile.{signed_pair, raw_sample, tile_terrain}
+use Rattle.terrain_model.specs.Voids.{known_at, without_voids}
+use Rattle.terrain_model.specs.Tile.{signed_pair, raw_sample, samples_from, tile_row, tile_terrain}
+use Rattle.terrain_model.proofs.Rows.{rows_length, rows_at, rows_all}
+use Rattle.terrain_model.proofs.Known.{filled_length, filled_at, filled_all}
 
 -- a table read where both tests pass
 inside : (a b : Bool) (height : ℤ) → a ≡ true → b ≡ true → cond (a && b) height (pos 0) ≡ height
 inside a b height e f = rw (e, f) refl
 
-pub tile_height : (bytes : List ℕ) (side x y : ℕ) → x < side → y < side → height_at (tile_terrain bytes side) (pos x) (pos y) ≡ raw_sample bytes (y * side + x)
+-- a row has as many samples as the tile's side
+row_length : (bytes : List ℕ) (side v : ℕ) → length (tile_row bytes side v) ≡ side
+unfolding samples_from
+row_length bytes side v = length-map-range_with_len (raw_sample bytes) (v * side) side
+
+filled_row_length : (bytes : List ℕ) (side v : ℕ) → length (without_voids (tile_row bytes side v)) ≡ side
+filled_row_length bytes side v = filled_length (tile_row bytes side v) ∙ row_length bytes side v
+
+pub tile_height : (bytes : List ℕ) (side x y : ℕ) → x < side → y < side → height_at (tile_terrain bytes side) (pos x) (pos y) ≡ known_at (tile_row bytes side y) x
 unfolding height_at tile_terrain
 tile_height bytes side x y x_in y_in =
-    inside (ltb x side) (ltb y side) (get_or (map (raw_sample bytes) (range_with_len 0 (side * side))) (y * side + x) (pos 0)) (grind (arith, nat_tests)) (grind (arith, nat_tests))
-    ∙ get_or-map-range_with_len (raw_sample bytes) 0 (side * side) (y * side + x) (y * side + x) (pos 0) (mul-add-lt y side x side y_in x_in) (omega arith)
+    let in_row : x < length (tile_row bytes side y) = subst (λ m. x < m) (sym (row_length bytes side y)) x_in in
+    inside (ltb x side) (ltb y side) (get_or (flat_map (λ v. without_voids (tile_row bytes side v)) (range_with_len 0 side)) (y * side + x) (pos 0)) (grind (arith, nat_tests)) (grind (arith, nat_tests))
+    ∙ rows_at (λ v. without_voids (tile_row bytes side v)) side 0 side y x (pos 0) (filled_row_length bytes side) y_in x_in
+    ∙ ap (λ v. get_or (without_voids (tile_row bytes side v)) x (pos 0)) (zero-add y)
+    ∙ filled_at (tile_row bytes side y) x (pos 0) in_row
 
 -- two bytes make a number of 16 bits
 pub signed_pair_fits : (high low : ℕ) → high < 256 → low < 256 → FitsSigned w16 (signed_pair high low)
@@ -57,16 +70,23 @@ unfolding raw_sample
 raw_sample_fits bytes n small =
     signed_pair_fits (slice_index bytes (2 * n)) (slice_index bytes (2 * n + 1)) (byte_at bytes (2 * n) small) (byte_at bytes (2 * n + 1) small)
 
+row_fits : (bytes : List ℕ) (side v : ℕ) → All (λ b. b < 256) bytes → All (FitsSigned w16) (tile_row bytes side v)
+unfolding samples_from
+row_fits bytes side v small k d inside =
+    let here : k < side = subst (λ m. k < m) (length-map-range_with_len (raw_sample bytes) (v * side) side) inside in
+    subst (FitsSigned w16) (sym (get_or-map-range_with_len (raw_sample bytes) (v * side) side k (v * side + k) d here refl)) (raw_sample_fits bytes (v * side + k) small)
+
+zero_fits : FitsSigned w16 (pos 0)
+zero_fits = grind (arith, ints)
+
 pub tile_is_terrain : (bytes : List ℕ) (side : ℕ) → All (λ b. b < 256) bytes → 1 ≤ side → side ≤ 3601 → IsTerrain (tile_terrain bytes side)
 unfolding tile_terrain
 tile_is_terrain bytes side small low high = record {
   some_columns = low;
   some_rows = low;
   few_samples = (let squares : side * side ≤ 3601 * 3601 = mul-le-mul high high in omega arith);
-  whole_table = length-map-range_with_len (raw_sample bytes) 0 (side * side);
-  short_heights = λ k d in_table.
-      let n : length (map (raw_sample bytes) (range_with_len 0 (side * side))) ≡ side * side = length-map-range_with_len (raw_sample bytes) 0 (side * side) in
-      rw (get_or-map-range_with_len (raw_sample bytes) 0 (side * side) k k d (omega arith) (omega arith)) (raw_sample_fits bytes k small);
+  whole_table = rows_length (λ v. without_voids (tile_row bytes side v)) side 0 side (filled_row_length bytes side);
+  short_heights = rows_all (FitsSigned w16) (λ v. without_voids (tile_row bytes side v)) 0 side (λ v. filled_all (FitsSigned w16) (tile_row bytes side v) zero_fits (row_fits bytes side v small));
 }
 
 pub level_doubled : (terrain : Terrain) (level : ℕ) (a b : ℤ) → level_height terrain level (pos 2 *ℤ a) (pos 2 *ℤ b) ≡ level_height terrain (level + 1) a b

@@ -1,2 +1,4 @@
 pub mod Sides
 pub mod Heights
+pub mod Rows
+pub mod Known

@@ -18,4 +18,7 @@ pub struct Corner {
 
 mod laws;
 
-pub use laws::{coarser_level, finest_level, side_fits, side_found, tile_height, tile_is_terrain};
+pub use laws::{
+    coarser_level, finest_level, known_samples_stay, no_void_stays, side_fits, side_found,
+    tile_height, tile_is_terrain,
+};

@@ -1,35 +1,29 @@
-use Rattle.std.proofs.Common.{◌≡◌, [], ◌∷◌, ◌++◌, true, false, All, FitsSigned, subst, sym, ap, ◌∙◌, List, ℤ, arith, rules}
-use Rattle.std.specs.Int.{w16}
-use Rattle.std.proofs.lemmas.Int.{to_z-of_z}
-use Rattle.std.proofs.lemmas.List.Elements.{All-push}
-use mir.Val.{to_z, of_z}
-use Rattle.terrain_model.specs.Tile.{raw_sample, is_void}
-use Rattle.hgt_tiles.proofs.TileLemmas.{samples_more, count_more}
+use Rattle.std.proofs.Common.{◌≡◌, ◌*◌, ◌+◌, flat_map, count_by, ap, ◌∙◌, arith}
+use Rattle.std.specs.List.{range_with_len}
+use Rattle.terrain_model.specs.Voids.{is_void, without_voids}
+use Rattle.terrain_model.specs.Tile.{tile_row, tile_terrain, void_count}
+use Rattle.hgt_tiles.proofs.TileLemmas.{rows_more, counted_more}
 use Rattle.hgt_tiles.proofs.tiles.read_samples.Goals as goal
-use Rattle.hgt_tiles.proofs.tiles.read_samples.Goals.{then-is_void, else-is_void}
 
-pub loop-n-preserved : goal.loop-n-preserved
-loop-n-preserved c =
-    let sample = c.sample_at-sample.result in
-    let before = c.loop-n.heights.items in
-    let after = c.push.new.self.items in
-    let fits : FitsSigned w16 sample = search rules in
-    let same : to_z w16 (of_z w16 sample) ≡ sample = to_z-of_z w16 sample fits in
-    let items : after ≡ before ++ sample ∷ [] = c.in_ok-push.ensures.items ∙ ap (λ x. before ++ x ∷ []) same in
-    let P : List ℤ → Type 0 = λ xs. All (FitsSigned w16) xs in
+pub loop-v-preserved : goal.loop-v-preserved
+loop-v-preserved c =
+    let bytes = c.args.bytes.now in
+    let side = c.args.side in
+    let v = c.loop-v.v in
     record {
-      heights = samples_more (raw_sample c.args.bytes.now) c.loop-n.n before after sample c.loop-n.invariant.heights items c.sample_at-sample.ensures;
-      voids =
-          elim c.if-is_void.branch [
-            | then-is_void w ↦
-                let void : is_void sample ≡ true = sym (ap is_void same) ∙ sym c.is_void.ensures ∙ w.if-is_void.true in
-                let counted = count_more is_void before after sample true items void in
-                omega arith
-            | else-is_void w ↦
-                let void : is_void sample ≡ false = sym (ap is_void same) ∙ sym c.is_void.ensures ∙ w.if-is_void.false in
-                let counted = count_more is_void before after sample false items void in
-                omega arith
-          ];
-      few_voids = elim c.if-is_void.branch [ then-is_void w ↦ omega arith | else-is_void w ↦ omega arith ];
-      short = subst P (sym items) (All-push (FitsSigned w16) before sample c.loop-n.invariant.short fits);
+      heights = rows_more (λ v. without_voids (tile_row bytes side v)) v c.loop-v.heights.items c.append_row.new.heights.items c.loop-v.invariant.heights c.in_ok-voids.ensures.heights;
+      voids = counted_more (tile_row bytes side) v c.loop-v.voids c.in_ok-voids.field-0 c.loop-v.invariant.voids c.in_ok-voids.ensures.voids;
+      few_voids = (let e : (v + 1) * side ≡ v * side + side = grind arith in omega (arith, e, c.loop-v.invariant.few_voids, c.in_ok-voids.ensures.few));
     }
+
+pub returns-clause-heights : goal.returns-clause-heights
+unfolding tile_terrain
+returns-clause-heights c =
+    let whole : c.loop-v.v ≡ c.args.side = omega (arith, c.loop-v-test.false, c.loop-v.auto.v-end) in
+    c.loop-v.invariant.heights ∙ ap (λ n. flat_map (λ v. without_voids (tile_row c.args.bytes.now c.args.side v)) (range_with_len 0 n)) whole
+
+pub returns-clause-voids : goal.returns-clause-voids
+unfolding void_count
+returns-clause-voids c =
+    let whole : c.loop-v.v ≡ c.args.side = omega (arith, c.loop-v-test.false, c.loop-v.auto.v-end) in
+    c.loop-v.invariant.voids ∙ ap (λ n. count_by is_void (flat_map (tile_row c.args.bytes.now c.args.side) (range_with_len 0 n))) whole

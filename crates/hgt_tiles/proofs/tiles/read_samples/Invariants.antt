@@ -1,13 +1,12 @@
-use Rattle.std.proofs.Common.{◌≡◌, ◌≤◌, map, count_by, All, FitsSigned}
-use Rattle.std.specs.Int.{w16}
+use Rattle.std.proofs.Common.{◌≡◌, ◌*◌, ◌≤◌, flat_map, count_by}
 use Rattle.std.specs.List.{range_with_len}
-use Rattle.terrain_model.specs.Tile.{raw_sample, is_void}
+use Rattle.terrain_model.specs.Voids.{is_void, without_voids}
+use Rattle.terrain_model.specs.Tile.{tile_row}
 use Rattle.hgt_tiles.proofs.tiles.read_samples.Given as goal
 
-abbrev pub invariant-loop-n : goal.invariant-loop-n
-invariant-loop-n l = record {
-  heights : l.heights.items ≡ map (raw_sample l.bytes) (range_with_len 0 l.n);
-  voids : l.voids ≡ count_by is_void l.heights.items;
-  few_voids : l.voids ≤ l.n;
-  short : All (FitsSigned w16) l.heights.items;
+abbrev pub invariant-loop-v : goal.invariant-loop-v
+invariant-loop-v l = record {
+  heights : l.heights.items ≡ flat_map (λ v. without_voids (tile_row l.bytes l.side v)) (range_with_len 0 l.v);
+  voids : l.voids ≡ count_by is_void (flat_map (tile_row l.bytes l.side) (range_with_len 0 l.v));
+  few_voids : l.voids ≤ l.v * l.side;
 }

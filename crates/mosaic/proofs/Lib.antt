@@ -1,0 +1,6 @@
+pub mod Extents
+pub mod Parts
+pub mod Owners
+pub mod Twins
+pub mod Judging
+pub mod Joined
