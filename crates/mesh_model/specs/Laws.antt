@@ -118,4 +118,5 @@ DrawnNames =
 -- no two vertices of the mesh of a plan's active regions stand at one position
 abbrev pub DrawnApart : Type 0
 DrawnApart =
-    (terrain : Terrain) (k finest : ℕ) (filled : List Region) → AllPairs StandApart (mesh_vertices terrain k (actives k finest filled))
+    (terrain : Terrain) (k finest : ℕ) (filled : List Region) →
+    AllPairs StandApart (mesh_vertices terrain k (actives k finest filled))

@@ -1,17 +1,17 @@
 -- What lasts over some events of a run, one after the other.
-use Rattle.std.proofs.Common.{◌≡◌, ℕ, suc, ◌+◌, ◌-◌, ◌<◌, ◌≤◌, Bool, true, false, ◌&&◌, [], ◌∷◌, ◌++◌, fold, reverse, refl, ap, sym, ◌∙◌, arith}
+use Rattle.std.proofs.Common.{◌≡◌, ℕ, suc, ◌+◌, ◌-◌, ◌<◌, ◌≤◌, Bool, true, false, ◌&&◌, [], ◌∷◌, ◌++◌, fold, reverse, sum_by, zero-add, refl, ap, sym, ◌∙◌, arith}
 use mathlib.Core.Path.{ap₂}
 use Rattle.std.specs.List.{range_with_len, list_all}
 use Rattle.std.proofs.Math.Bool.{and-true}
 use Rattle.std.proofs.lemmas.List.Folds.{list_all-append}
-use Rattle.std.proofs.lemmas.List.Sums.{fold-append}
+use Rattle.std.proofs.lemmas.List.Sums.{fold-append, sum_by-append}
 use Rattle.plan_model.specs.Steps.{step}
 use Rattle.plan_model.specs.Histories.{Run, then_step}
 use Rattle.plan_model.specs.Rounds.{is_job, claims, is_settled, rounds, round}
 use Rattle.plan_model.specs.declared.events.Event.TheVariants.{Claim}
 use Rattle.plan_plain.specs.SoundRuns.{IsSoundRun}
 use Rattle.plan_plain.specs.Flights.{IsAfter}
-use Rattle.plan_plain.proofs.Ranges.{ranged, down}
+use Rattle.plan_plain.proofs.Ranges.{ranged, ranged_from, down}
 
 pub after_none : (run : Run) → IsSoundRun run → IsAfter 0 run run
 after_none run h = record { sound = h; few = omega arith; k = refl; levels = refl }
@@ -55,10 +55,17 @@ folded_down f start old new j n some few e g =
     let below : j - 1 < n = omega arith in
     g ∙ ap (λ (run : Run). f run (j - 1)) e ∙ sym (fold-append f start (reverse (range_with_len j (n - j))) ((j - 1) ∷ [])) ∙ ap (λ (i : ℕ). fold f start (reverse (range_with_len i (n - i)) ++ (j - 1) ∷ [])) back ∙ ap (fold f start) (sym (down (j - 1) n below))
 
--- ---- whether all levels are whole
-pub settled_more : (p : ℕ → Bool) (i : ℕ) (old whole : Bool) → whole ≡ p i → old ≡ list_all p (range_with_len 0 i) → (old && whole) ≡ list_all p (range_with_len 0 (i + 1))
-settled_more p i old whole e h =
-    ap₂ (λ (a b : Bool). a && b) h (e ∙ sym (and-true (p i))) ∙ sym (list_all-append p (range_with_len 0 i) (i ∷ [])) ∙ ap (list_all p) (sym (ranged i))
+-- ---- the levels in use
+pub settled_more : (p : ℕ → Bool) (a i : ℕ) (old whole : Bool) → a ≤ i → whole ≡ p i → old ≡ list_all p (range_with_len a (i - a)) → (old && whole) ≡ list_all p (range_with_len a (i + 1 - a))
+settled_more p a i old whole h e g =
+    ap₂ (λ (x y : Bool). x && y) g (e ∙ sym (and-true (p i))) ∙ sym (list_all-append p (range_with_len a (i - a)) (i ∷ [])) ∙ ap (list_all p) (sym (ranged_from a i h))
+
+one_summed : (f : ℕ → ℕ) (i : ℕ) → f i ≡ sum_by f (i ∷ [])
+one_summed f i = sym (zero-add (f i))
+
+pub summed_more : (f : ℕ → ℕ) (a i old cells : ℕ) → a ≤ i → cells ≡ f i → old ≡ sum_by f (range_with_len a (i - a)) → old + cells ≡ sum_by f (range_with_len a (i + 1 - a))
+summed_more f a i old cells h e g =
+    ap₂ (λ (x y : ℕ). x + y) g (e ∙ one_summed f i) ∙ sym (sum_by-append f (range_with_len a (i - a)) (i ∷ [])) ∙ ap (sum_by f) (sym (ranged_from a i h))
 
 -- ---- rounds, by those that are left
 pub rounds_on : (workers i most : ℕ) (run : Run) → i < most → is_settled run.state ≡ false → rounds (most - (i + 1)) workers (round workers run) ≡ rounds (most - i) workers run

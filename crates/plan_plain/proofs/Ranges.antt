@@ -8,6 +8,12 @@ pub ranged : (i : ℕ) → range_with_len 0 (i + 1) ≡ range_with_len 0 i ++ i 
 ranged i =
     sym (map-id (range_with_len 0 (i + 1))) ∙ map-range_with_len_more (λ (n : ℕ). n) 0 i i (omega arith) ∙ ap (λ (xs : List ℕ). xs ++ i ∷ []) (map-id (range_with_len 0 i))
 
+-- one more number of a range that begins anywhere
+pub ranged_from : (a i : ℕ) → a ≤ i → range_with_len a (i + 1 - a) ≡ range_with_len a (i - a) ++ i ∷ []
+ranged_from a i h =
+    let next : i + 1 - a ≡ (i - a) + 1 = omega arith in
+    ap (range_with_len a) next ∙ sym (map-id (range_with_len a ((i - a) + 1))) ∙ map-range_with_len_more (λ (n : ℕ). n) a (i - a) i (omega arith) ∙ ap (λ (xs : List ℕ). xs ++ i ∷ []) (map-id (range_with_len a (i - a)))
+
 counted_down : (l m : ℕ) → reverse (range_with_len l (suc m)) ≡ reverse (range_with_len (l + 1) m) ++ l ∷ []
 counted_down l m = reverse-append (l ∷ []) (range_with_len (l + 1) m)
 

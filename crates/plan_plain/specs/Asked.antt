@@ -1,7 +1,7 @@
 -- Events of passes as the definitions have them.
 use Rattle.std.specs.Prelude.{ℕ, ◌<◌, List, map}
 use Rattle.plan_model.specs.Histories.{Asked}
-use Rattle.plan_plain_steps.specs.Sound.{IsTaken}
+use Rattle.plan_model.specs.Sound.{IsTaken}
 use Rattle.plan_plain.specs.declared.runs.PlainAsked.{PlainAsked}
 
 -- the definition's event of a pass

@@ -1,3 +1,4 @@
 pub mod SoundRuns
 pub mod Asked
 pub mod Flights
+pub mod Legal

@@ -2,18 +2,20 @@
 
 ghost use Rattle.std.specs.Prelude.{◌≡◌, ℕ, ◌+◌, ◌*◌, ◌^◌, ◌<◌, ◌≤◌, IfOk, OnOk, All, length, fold};
 ghost use Rattle.std.specs.List.{range_with_len};
+ghost use Rattle.plan_model.specs.Limits.{IsSize, IsLevelCount};
 ghost use Rattle.plan_model.specs.States.{from_coarsest};
 ghost use Rattle.plan_model.specs.Steps.{step};
 ghost use Rattle.plan_model.specs.Histories.{then_step};
-ghost use Rattle.plan_model.specs.Rounds.{is_job, claims, finish_of, finishes, ending, is_ripe, publish_of, publishes, round, is_settled, rounds, settle, fly_step, flight};
-ghost use Rattle.plan_plain_steps.specs.Sound.{IsReady, IsTaken};
+ghost use Rattle.plan_model.specs.Rounds.{is_job, claims, finish_of, finishes, ending, is_ripe, publish_of, publishes, round, is_settled, rounds, unfilled_cells, cells_to_fill, settle, fly_line, flight, fly_events};
+ghost use Rattle.plan_model.specs.Sound.{IsReady, IsTaken};
 ghost use Rattle.plan_plain.specs.SoundRuns.{IsSoundRun, IsFlown};
+ghost use Rattle.plan_plain.specs.Asked.{asked_of};
 ghost use Rattle.plan_plain.specs.Flights.{IsAfter};
 
-use crate::runs::PlainRun;
-use level_frame::torus_side;
-use plan_model::{Answer, Event, FlyStep};
+use crate::runs::{PlainAsked, PlainRun, events_of};
+use plan_model::{Answer, Event, FlyLine};
 use plan_plain_steps::PlainState;
+use plan_sound::filled_regions_are_near;
 use std::alloc::{AllocError, Global};
 
 // The pass that draws the frames of a flight.
@@ -157,20 +159,21 @@ fn round(alloc: Global, run: &mut PlainRun, workers: u8) -> Result<(), AllocErro
     publishes(alloc, run)
 }
 
-/// Whether every level's filled region is its window.
+/// Whether the filled region of every level in use is its window.
 pub fn is_settled(state: &PlainState) -> bool
     requires { IsReady state.now }
     ensures value { result ≡ is_settled state.now }
 {
     let mut settled = true;
-    for l in 0..state.level_count() {
+    for l in state.finest()..state.level_count() {
         let whole = state.is_whole(l);
         settled &= whole;
     }
     settled
 }
 
-// Rounds, at most so many, for as long as some level isn't whole when the round would start.
+// Rounds, at most so many, for as long as some level in use isn't whole when the round would
+// start.
 fn rounds(alloc: Global, run: &mut PlainRun, workers: u8, most: u32) -> Result<(), AllocError>
     requires sound { IsSoundRun run.old }
     requires few { length run.old.history < 2 ^ 59 }
@@ -188,7 +191,35 @@ fn rounds(alloc: Global, run: &mut PlainRun, workers: u8, most: u32) -> Result<(
     Ok(())
 }
 
-// Rounds until all levels are whole.
+// How many cells of a level's window its filled region doesn't hold.
+#[tactic(auto, unfolding(plan_model::specs::Rounds::unfilled_cells))]
+fn unfilled_cells(state: &PlainState, l: u8) -> u64
+    requires sound { IsReady state.now }
+    requires level { l < length state.now.levels }
+    ensures value { result ≡ unfilled_cells state.now l }
+    ensures few { result ≤ 2 ^ 16 }
+{
+    filled_regions_are_near();
+    let window = state.window_at(l);
+    let filled = window.meet(state.filled_at(l));
+    window.area().saturating_sub(filled.area())
+}
+
+/// How many cells of the windows of the levels in use no filled region holds.
+#[tactic(auto, unfolding(plan_model::specs::Rounds::cells_to_fill))]
+pub fn cells_to_fill(state: &PlainState) -> u32
+    requires { IsReady state.now }
+    ensures value { result ≡ cells_to_fill state.now }
+    ensures few { result < 2 ^ 20 }
+{
+    let mut cells = 0;
+    for l in state.finest()..state.level_count() {
+        cells += unfilled_cells(state, l) as u32;
+    }
+    cells
+}
+
+// Rounds until all levels in use are whole.
 #[tactic(auto, unfolding(plan_model::specs::Rounds::settle))]
 fn settle(alloc: Global, run: &mut PlainRun, workers: u8) -> Result<(), AllocError>
     requires sound { IsSoundRun run.old }
@@ -197,34 +228,33 @@ fn settle(alloc: Global, run: &mut PlainRun, workers: u8) -> Result<(), AllocErr
     ensures value { OnOk result (run.new ≡ settle workers run.old) }
     ensures after { IsAfter (2 ^ 26) run.old run.new }
 {
-    let levels = u32::from(run.state().level_count());
-    let side = torus_side(run.state().k()) as u32;
-    rounds(alloc, run, workers, levels * (side * side))
+    let most = cells_to_fill(run.state());
+    rounds(alloc, run, workers, most)
 }
 
 // One line of a flight.
-fn fly_step(alloc: Global, run: &mut PlainRun, workers: u8, line: FlyStep) -> Result<(), AllocError>
+fn fly_line(alloc: Global, run: &mut PlainRun, workers: u8, line: FlyLine) -> Result<(), AllocError>
     requires sound { IsSoundRun run.old }
     requires few { length run.old.history < 2 ^ 59 }
     requires workers { workers < 16 }
     requires flown { IsFlown line }
-    ensures value { OnOk result (run.new ≡ fly_step workers run.old line) }
+    ensures value { OnOk result (run.new ≡ fly_line workers run.old line) }
     ensures after { IsAfter (2 ^ 26) run.old run.new }
 {
     match line {
-        FlyStep::Move { x, y } => {
-            step(alloc, run, 0, Event::Move { x, y })?;
+        FlyLine::Move { x, y, a } => {
+            step(alloc, run, 0, Event::Move { x, y, a })?;
             Ok(())
         }
-        FlyStep::Frame => {
+        FlyLine::Frame => {
             step(alloc, run, FRAME_PASS, Event::Begin)?;
             round(alloc, run, workers)
         }
-        FlyStep::Settle => settle(alloc, run, workers),
+        FlyLine::Settle => settle(alloc, run, workers),
     }
 }
 
-/// The flight of a script, for K from 4 to 8, at most 12 levels and at most 15 workers. It fails where
+/// The flight of a script, for K from 4 to 8, 1 to 12 levels and at most 15 workers. It fails where
 /// memory runs out.
 #[tactic(auto, unfolding(plan_model::specs::Rounds::flight))]
 pub fn flight(
@@ -232,11 +262,10 @@ pub fn flight(
     k: u8,
     levels: u8,
     workers: u8,
-    script: &[FlyStep],
+    script: &[FlyLine],
 ) -> Result<PlainRun, AllocError>
-    requires k_low { 4 ≤ k }
-    requires k_high { k ≤ 8 }
-    requires few { levels ≤ 12 }
+    requires k { IsSize k }
+    requires levels { IsLevelCount levels }
     requires workers { workers < 16 }
     requires lines { length script.now < 2 ^ 32 }
     requires flown { All IsFlown script.now }
@@ -246,7 +275,28 @@ pub fn flight(
     let state = PlainState::start(alloc, k, levels)?;
     let mut run = PlainRun::from_state(alloc, state);
     for line in script {
-        fly_step(alloc, &mut run, workers, *line)?;
+        fly_line(alloc, &mut run, workers, *line)?;
     }
     Ok(run)
+}
+
+/// The events of the flight of a script, for K from 4 to 8, 1 to 12 levels and at most 15 workers. It fails
+/// where memory runs out.
+#[tactic(auto, unfolding(plan_model::specs::Rounds::fly_events))]
+pub fn fly_events(
+    alloc: Global,
+    k: u8,
+    levels: u8,
+    workers: u8,
+    script: &[FlyLine],
+) -> Result<Vec<PlainAsked>, AllocError>
+    requires k { IsSize k }
+    requires levels { IsLevelCount levels }
+    requires workers { workers < 16 }
+    requires lines { length script.now < 2 ^ 32 }
+    requires flown { All IsFlown script.now }
+    ensures value { IfOk result (λ v. asked_of v.items ≡ fly_events k levels workers script.now) }
+{
+    let run = flight(alloc, k, levels, workers, script)?;
+    events_of(alloc, run.history())
 }

@@ -1,11 +1,11 @@
 //! Runs of events, and the histories that they leave.
 
-ghost use Rattle.std.specs.Prelude.{◌≡◌, ℕ, ◌+◌, ◌^◌, ◌<◌, ◌≤◌, ◌↔◌, IsTrue, IfOk, OnOk, OnErr, All, length, fold, take};
-ghost use Rattle.plan_model.specs.Histories.{run, run_from, then_step};
+ghost use Rattle.std.specs.Prelude.{◌≡◌, ℕ, ◌+◌, ◌^◌, ◌<◌, ◌≤◌, ◌↔◌, IsTrue, IfOk, OnOk, OnErr, All, length, fold, map, take};
+ghost use Rattle.plan_model.specs.Histories.{run, run_from, then_step, asked_by};
 ghost use Rattle.plan_model.specs.Steps.{step};
-ghost use Rattle.plan_plain_steps.specs.Sound.{IsSound, IsTaken};
+ghost use Rattle.plan_model.specs.Sound.{IsSound, IsTaken};
 ghost use Rattle.plan_plain.specs.SoundRuns.{IsSoundRun};
-ghost use Rattle.plan_plain.specs.Asked.{asked_of, IsAsked};
+ghost use Rattle.plan_plain.specs.Asked.{asked_as, asked_of, IsAsked};
 
 use plan_model::{Answer, Entry, Event};
 use plan_plain_steps::{PlainState, is_taken};
@@ -115,4 +115,25 @@ pub fn run(alloc: Global, state: PlainState, events: &[PlainAsked]) -> Result<Pl
         run.then_step(alloc, asked.pass, asked.event)?;
     }
     Ok(run)
+}
+
+// The event of an entry.
+fn event_of(entry: &Entry) -> PlainAsked
+    ensures value { asked_as result ≡ asked_by entry.now }
+{
+    PlainAsked {
+        pass: entry.pass,
+        event: entry.event,
+    }
+}
+
+/// The events of a history. It fails where memory runs out.
+pub fn events_of(alloc: Global, history: &[Entry]) -> Result<Vec<PlainAsked>, AllocError>
+    ensures value { IfOk result (λ v. asked_of v.items ≡ map asked_by history.now) }
+{
+    let mut out = Vec::new(alloc);
+    for entry in history {
+        out.push(event_of(entry))?;
+    }
+    Ok(out)
 }

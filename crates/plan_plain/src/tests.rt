@@ -1,6 +1,8 @@
 //! Worked scripts of events, and flights.
 
+mod altitudes;
 mod flights;
+mod histories;
 mod levels;
 mod one_level;
 mod regions;

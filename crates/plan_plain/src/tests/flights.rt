@@ -1,14 +1,14 @@
 //! Flights.
 
-use crate::flight;
 use crate::tests::scripts::{held, job, region};
-use plan_model::{Answer, Entry, Event, FlyStep};
+use crate::{PlainAsked, flight, fly_events};
+use plan_model::{Answer, Entry, Event, FlyLine};
 use std::test::Fail;
 
-const SCRIPT: [FlyStep; 3] = [
-    FlyStep::Move { x: 1, y: 1 },
-    FlyStep::Settle,
-    FlyStep::Frame,
+const SCRIPT: [FlyLine; 3] = [
+    FlyLine::Move { x: 1, y: 1, a: 0 },
+    FlyLine::Settle,
+    FlyLine::Frame,
 ];
 
 fn entry(pass: u8, event: Event, answer: Answer) -> Entry {
@@ -51,7 +51,7 @@ fn fifteen_workers(rt: HostRuntime) -> Result<(), Fail> {
     let run = flight(rt.alloc(), 4, 1, 15, &SCRIPT)?;
     assert_eq!(rt; run.history().len(), 27);
     let first = [
-        entry(0, Event::Move { x: 1, y: 1 }, Answer::Moved),
+        entry(0, Event::Move { x: 1, y: 1, a: 0 }, Answer::Moved),
         entry(0, Event::Claim, job(0, -1, -1, region(-6, -6, -1, -1), 0)),
         entry(1, Event::Claim, job(0, 0, -1, region(0, -6, 7, -1), 0)),
         entry(2, Event::Claim, job(0, -1, 0, region(-6, 0, -1, 7), 0)),
@@ -59,5 +59,45 @@ fn fifteen_workers(rt: HostRuntime) -> Result<(), Fail> {
         entry(4, Event::Claim, held(0, 1, 1, 0)),
     ];
     assert_eq!(rt; &run.history()[..6], first.as_slice());
+    Ok(())
+}
+
+#[test]
+fn a_high_viewer_settles_the_levels_in_use(rt: HostRuntime) -> Result<(), Fail> {
+    let script = [FlyLine::Move { x: 1, y: 1, a: 17 }, FlyLine::Settle];
+    let run = flight(rt.alloc(), 4, 3, 1, &script)?;
+    assert_eq!(rt; run.history().len(), 39);
+    let grown = Answer::Grown {
+        region: region(-6, -6, 8, 8),
+    };
+    let last = run.history().last().copied();
+    assert_eq!(rt; last, Some(entry(0, Event::Publish { level: 1 }, grown)));
+    Ok(())
+}
+
+#[test]
+fn the_events_of_four_levels_and_two_workers(rt: HostRuntime) -> Result<(), Fail> {
+    let script = [FlyLine::Move { x: 1, y: 1, a: 0 }, FlyLine::Settle];
+    let events = fly_events(rt.alloc(), 4, 4, 2, &script)?;
+    assert_eq!(rt; events.len(), 81);
+    let first = [
+        PlainAsked {
+            pass: 0,
+            event: Event::Move { x: 1, y: 1, a: 0 },
+        },
+        PlainAsked {
+            pass: 0,
+            event: Event::Claim,
+        },
+        PlainAsked {
+            pass: 1,
+            event: Event::Claim,
+        },
+        PlainAsked {
+            pass: 0,
+            event: Event::Finish,
+        },
+    ];
+    assert_eq!(rt; &events.as_slice()[..4], first.as_slice());
     Ok(())
 }

@@ -46,10 +46,10 @@ const NARROW: [Region; 2] = [
 #[test]
 fn the_finer_region_lies_inside(rt: HostRuntime) -> Result<(), Fail> {
     assert!(rt; are_near(&FILLED) && are_near(&NARROW));
-    let active = actives(rt.alloc(), 4, &FILLED)?;
+    let active = actives(rt.alloc(), 4, 0, &FILLED)?;
     let wanted = [region(4, 4, 8, 8), region(0, 0, 6, 6)];
     assert_eq!(rt; active.as_slice(), wanted.as_slice());
-    let narrow = actives(rt.alloc(), 4, &NARROW)?;
+    let narrow = actives(rt.alloc(), 4, 0, &NARROW)?;
     let wanted = [Region::empty(), region(0, 0, 2, 2)];
     assert_eq!(rt; narrow.as_slice(), wanted.as_slice());
     Ok(())
@@ -62,7 +62,7 @@ fn what_a_move_left_of_a_window(rt: HostRuntime) -> Result<(), Fail> {
         region(10, -14, 16, 16)
     );
     assert!(rt; are_near(&MOVED));
-    let active = actives(rt.alloc(), 5, &MOVED)?;
+    let active = actives(rt.alloc(), 5, 0, &MOVED)?;
     assert_eq!(rt; active.as_slice(), MOVED.as_slice());
     Ok(())
 }
@@ -78,7 +78,7 @@ fn six_levels_round_a_viewer(rt: HostRuntime) -> Result<(), Fail> {
         window(6, 5, 600, 600),
     ];
     assert!(rt; are_near(&filled));
-    let active = actives(rt.alloc(), 6, &filled)?;
+    let active = actives(rt.alloc(), 6, 0, &filled)?;
     let wanted = [
         region(570, 570, 632, 632),
         region(270, 270, 332, 332),

@@ -1,6 +1,6 @@
 //! Scripts of events with their wanted answers.
 
-ghost use Rattle.std.specs.Prelude.{◌≤◌};
+ghost use Rattle.plan_model.specs.Limits.{IsSize, IsLevelCount};
 
 use crate::{PlainAsked, PlainState, are_asked, run};
 use clip_regions::Region;
@@ -52,7 +52,12 @@ pub fn at(level: u8, bx: i32, by: i32) -> Place {
 
 /// A move.
 pub fn moves(x: i32, y: i32) -> Row {
-    asks(0, Event::Move { x, y }, Answer::Moved)
+    climbs(x, y, 0)
+}
+
+/// A move to an altitude.
+pub fn climbs(x: i32, y: i32, a: u32) -> Row {
+    asks(0, Event::Move { x, y, a }, Answer::Moved)
 }
 
 /// A region from its west, north, east and south.
@@ -151,9 +156,8 @@ fn asked(row: &Row) -> PlainAsked {
 
 /// Runs a script from the start, and compares the answers.
 pub fn check(rt: &impl Abort, alloc: Global, k: u8, levels: u8, script: &Script) -> Result<(), Fail>
-    requires k_low { 4 ≤ k }
-    requires k_high { k ≤ 8 }
-    requires few { levels ≤ 12 }
+    requires k { IsSize k }
+    requires levels { IsLevelCount levels }
 {
     let rows = script.rows.as_slice();
     let events: Vec<PlainAsked> = rows.iter().map(|row| asked(row)).collect(alloc)?;

@@ -1,6 +1,6 @@
 use Rattle.std.proofs.Common.{◌≡◌, ℕ, ◌+◌, length, subst, sym, rules}
 use Rattle.plan_model.specs.Histories.{Run}
-use Rattle.plan_plain_steps.specs.Sound.{IsSound}
+use Rattle.plan_model.specs.Sound.{IsSound}
 use Rattle.plan_plain.specs.SoundRuns.{IsSoundRun}
 use Rattle.plan_plain.proofs.runs.PlainRun.then_step.Goals as goal
 
