@@ -1,6 +1,6 @@
 -- What the log says of an event, and what the event leaves.
 use Rattle.std.specs.Prelude.{ℕ, Bool, true, false, ◌&&◌, not, is_some, if◌then◌else◌}
-use Rattle.plan_model.specs.States.{State, pass_at}
+use Rattle.plan_model.specs.States.{State, pass_at, job_of}
 use Rattle.plan_model.specs.Steps.{step}
 use Rattle.plan_model.specs.Histories.{Run, then_step}
 use Rattle.plan_model.specs.declared.events.Event.{Event}
@@ -10,16 +10,16 @@ use Rattle.plan_log.specs.declared.log.Reply.TheVariants.{Answered, NoJob}
 
 -- the event gives a piece back
 abbrev pub is_finish : Event → Bool
-is_finish (Move x y) = false
+is_finish (Move x y a) = false
 is_finish Claim = false
 is_finish Finish = true
-is_finish (Publish l) = false
+is_finish (Publish level) = false
 is_finish Begin = false
 is_finish End = false
 
 -- a pass without a job gives a piece back
 abbrev pub lacks_job : State → ℕ → Event → Bool
-lacks_job st p event = is_finish event && not (is_some (pass_at st p).job)
+lacks_job st p event = is_finish event && not (is_some (job_of (pass_at st p)))
 
 -- what the log says of an event
 abbrev pub reply_of : State → ℕ → Event → Reply

@@ -5,6 +5,8 @@ use Rattle.clip_regions.specs.declared.region.Region.{Region}
 use Rattle.plan_model.specs.declared.tiles.TileId.{TileId}
 use Rattle.plan_model.specs.declared.events.Answer.{Answer}
 use Rattle.plan_model.specs.declared.events.Answer.TheVariants.{Moved, Job, Idle, Ripe, Busy, Held, HasWork, Kept, Stale, Grown, Waiting, Whole, Frame, Closed, NoFrame}
+use Rattle.plan_plain.specs.declared.runs.PlainAsked.{PlainAsked}
+use Rattle.plan_log.specs.Lines.{event_text}
 use Rattle.plan_log.specs.declared.log.Reply.{Reply}
 use Rattle.plan_log.specs.declared.log.Reply.TheVariants.{Answered, NoJob}
 
@@ -41,6 +43,6 @@ abbrev pub reply_text : Reply → List ℕ
 reply_text (Answered answer) = answer_text answer
 reply_text NoJob = codes "nojob"
 
--- a line of a log, without its line feed: the script's line, and what is said of it
-abbrev pub log_text : List ℕ → Reply → List ℕ
-log_text line reply = line ++ codes ": " ++ reply_text reply
+-- a line of a log, without its line feed: the event of a pass, and what is said of it
+abbrev pub log_text : PlainAsked → Reply → List ℕ
+log_text asked reply = event_text asked.pass asked.event ++ codes ": " ++ reply_text reply

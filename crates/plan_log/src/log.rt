@@ -1,10 +1,12 @@
 //! The lines of a log.
 
 ghost use Rattle.std.specs.Prelude.{Some};
+ghost use Rattle.plan_log.specs.Lines.{event_text, place_text};
 ghost use Rattle.plan_log.specs.Texts.{answer_text, log_text, region_text, reply_text, tile_text};
 
 use clip_regions::Region;
-use plan_model::{Answer, TileId};
+use plan_model::{Answer, Event, TileId};
+use plan_plain::PlainAsked;
 use std::fmt;
 
 /// What the log says of an event.
@@ -16,13 +18,57 @@ pub(crate) enum Reply {
     NoJob,
 }
 
-/// A line of a log: the script's line, and what is said of it.
+/// A line of a log: an event of a pass, and what is said of it.
 #[derive(Drop)]
-pub(crate) struct LogLine<'a> {
-    /// The script's line, without its line feed.
-    pub(crate) line: &'a str,
+pub(crate) struct LogLine {
+    /// The event.
+    pub(crate) asked: PlainAsked,
     /// What is said of it.
     pub(crate) reply: Reply,
+}
+
+// The place of a viewer, as a script and a log write it.
+#[derive(Drop)]
+struct PlaceText {
+    x: i32,
+    y: i32,
+}
+
+impl fmt::Display for PlaceText {
+    ghost output = { λ text. Some (place_text text.x text.y) };
+
+    fn fmt<W: fmt::Write>(&self, f: &mut fmt::Formatter<W>) -> fmt::Result {
+        let x = self.x;
+        let y = self.y;
+        write!(f, "{x} {y}")
+    }
+}
+
+// An event of a pass, as a script and a log write it.
+#[derive(Drop)]
+struct EventText(PlainAsked);
+
+impl fmt::Display for EventText {
+    ghost output = { λ text. Some (event_text text.0.pass text.0.event) };
+
+    fn fmt<W: fmt::Write>(&self, f: &mut fmt::Formatter<W>) -> fmt::Result {
+        let pass = self.0.pass;
+        match self.0.event {
+            Event::Move { x, y, a } => {
+                let place = PlaceText { x, y };
+                if a == 0 {
+                    write!(f, "move {place}")
+                } else {
+                    write!(f, "move {place} {a}")
+                }
+            }
+            Event::Claim => write!(f, "claim {pass}"),
+            Event::Finish => write!(f, "finish {pass}"),
+            Event::Publish { level } => write!(f, "publish {level}"),
+            Event::Begin => write!(f, "begin {pass}"),
+            Event::End => write!(f, "end {pass}"),
+        }
+    }
 }
 
 // A tile of a level, as a log names it.
@@ -118,12 +164,12 @@ impl fmt::Display for Reply {
     }
 }
 
-impl fmt::Display for LogLine<'_> {
-    ghost output = { λ log. Some (log_text log.line.now log.reply) };
+impl fmt::Display for LogLine {
+    ghost output = { λ log. Some (log_text log.asked log.reply) };
 
     fn fmt<W: fmt::Write>(&self, f: &mut fmt::Formatter<W>) -> fmt::Result {
-        let line = self.line;
+        let event = EventText(self.asked);
         let reply = self.reply;
-        write!(f, "{line}: {reply}")
+        write!(f, "{event}: {reply}")
     }
 }

@@ -5,7 +5,7 @@ ghost use Rattle.plan_plain.specs.SoundRuns.{IsSoundRun};
 ghost use Rattle.plan_plain.specs.Asked.{IsAsked};
 ghost use Rattle.std.specs.Io.KnownBytes.{Appends};
 ghost use Rattle.plan_log.specs.Texts.{log_text};
-ghost use Rattle.plan_log.specs.Lines.{IsSize, text_of};
+ghost use Rattle.plan_log.specs.Lines.{AreSizes, Says};
 ghost use Rattle.plan_log.specs.Replies.{is_finish, lacks_job, reply_of, run_after};
 
 use crate::halt::Halt;
@@ -15,7 +15,6 @@ use plan_model::Event;
 use plan_plain::{PlainAsked, PlainRun, PlainState, is_taken};
 use std::alloc::Global;
 use std::io::{BufRead, Split, Write};
-use std::str;
 
 /// The most lines that a script may have.
 const LINE_LIMIT: u64 = 1 << 32;
@@ -39,7 +38,7 @@ fn next_line<R: BufRead + Drop>(lines: &mut Split<R>) -> Result<Option<Vec<u8>>,
 
 // The sizes of a script: those of its first line that isn't skipped.
 fn read_start<R: BufRead + Drop>(lines: &mut Split<R>) -> Result<Start, Halt>
-    ensures size { IfOk result (λ start. IsSize start.k start.levels) }
+    ensures sizes { IfOk result (λ start. AreSizes start.k start.levels) }
     ensures number { IfOk result (λ start. start.number ≤ 2 ^ 32) }
 {
     for number in 1..=LINE_LIMIT {
@@ -98,43 +97,42 @@ fn reply(alloc: Global, run: &mut PlainRun, asked: PlainAsked) -> Result<Reply, 
     Ok(Reply::Answered(answer))
 }
 
-// Writes what the log says of a line.
-fn write_line<W: Write>(log: &mut W, line: &str, reply: Reply) -> Result<(), Halt>
-    ensures written { OnOk result (Appends (W.contents log.old) (W.contents log.new) (log_text line.now reply ++ codes "\n")) }
+// Writes what the log says of an event.
+fn write_line<W: Write>(log: &mut W, asked: PlainAsked, reply: Reply) -> Result<(), Halt>
+    ensures written { OnOk result (Appends (W.contents log.old) (W.contents log.new) (log_text asked reply ++ codes "\n")) }
 {
-    let text = LogLine { line, reply };
+    let text = LogLine { asked, reply };
     match writeln!(log, "{text}") {
         Ok(()) => Ok(()),
         Err(error) => Err(Halt::of_write(&error)),
     }
 }
 
-// Does the event of a line, and writes what the log says of it.
+// Does an event, and writes what the log says of it.
 fn play_event<W: Write>(
     alloc: Global,
     run: &mut PlainRun,
     asked: PlainAsked,
-    line: &str,
     log: &mut W,
 ) -> Result<(), Halt>
     requires sound { IsSoundRun run.old }
     requires few { length run.old.history < 2 ^ 62 }
     requires asked { IsAsked (length run.old.state.levels) asked }
     ensures run { OnOk result (run.new ≡ run_after run.old asked.pass asked.event) }
-    ensures written { OnOk result (Appends (W.contents log.old) (W.contents log.new) (log_text line.now (reply_of run.old.state asked.pass asked.event) ++ codes "\n")) }
+    ensures written { OnOk result (Appends (W.contents log.old) (W.contents log.new) (log_text asked (reply_of run.old.state asked.pass asked.event) ++ codes "\n")) }
     ensures sound { IsSoundRun run.new }
     ensures grown { length run.new.history ≤ length run.old.history + 1 }
     ensures levels { length run.new.state.levels ≡ length run.old.state.levels }
 {
     let reply = reply(alloc, run, asked)?;
-    write_line(log, line, reply)
+    write_line(log, asked, reply)
 }
 
 // The event of a line of a script with this many levels, where it isn't skipped. The first line is past.
 fn read_event(line: &[u8], levels: u8, number: u64) -> Result<Option<PlainAsked>, Halt>
     requires few { levels ≤ 12 }
     ensures asked { IfOk result (λ event. IfSome event (IsAsked levels)) }
-    ensures spelled { IfOk result (λ event. IfSome event (λ asked. text_of (ScriptLine.Asked asked) ≡ line.now)) }
+    ensures spelled { IfOk result (λ event. IfSome event (λ asked. Says (ScriptLine.Asked asked) line.now)) }
     ensures refused { IfErr result (λ halt. halt ≡ Halt.Line number) }
 {
     match script_line(line) {
@@ -161,10 +159,7 @@ fn play_line<W: Write>(
     ensures levels { length run.new.state.levels ≡ levels }
 {
     match read_event(line, levels, number)? {
-        Some(asked) => match str::from_utf8(line) {
-            Ok(text) => play_event(alloc, run, asked, text, log),
-            Err(_) => Err(Halt::Line(number)),
-        },
+        Some(asked) => play_event(alloc, run, asked, log),
         None => Ok(()),
     }
 }

@@ -1,9 +1,9 @@
 //! The lines of a play script.
 
 ghost use Rattle.std.specs.Prelude.{◌≡◌, ◌↔◌, ◌++◌, IsTrue, Some, IfSome, false, codes};
-ghost use Rattle.plan_log.specs.Lines.{is_skipped, IsInRange, IsSpoken, NamesPass, text_of, word_of};
+ghost use Rattle.plan_log.specs.Lines.{is_skipped, IsInRange, IsSpoken, NamesPass, Says, word_of};
 
-use crate::numbers::{coordinate, natural};
+use crate::numbers::{altitude, coordinate, natural};
 use plan_model::Event;
 use plan_plain::PlainAsked;
 use std::str;
@@ -27,7 +27,7 @@ pub(crate) enum ScriptLine {
 // `size K L`, by its numbers.
 fn size_line(numbers: &str) -> Option<ScriptLine>
     ensures spoken { IfSome result IsSpoken }
-    ensures spelled { IfSome result (λ line. text_of line ≡ codes "size" ++ codes " " ++ numbers.now) }
+    ensures spelled { IfSome result (λ line. Says line (codes "size" ++ codes " " ++ numbers.now)) }
 {
     let (k, levels) = numbers.split_once(' ')?;
     let k = natural(k, 4, 8)?;
@@ -35,22 +35,59 @@ fn size_line(numbers: &str) -> Option<ScriptLine>
     Some(ScriptLine::Size { k, levels })
 }
 
-// `move X Y`, by its numbers. A move is of no pass: it is taken as pass 0's.
-fn move_line(numbers: &str) -> Option<ScriptLine>
-    ensures spoken { IfSome result IsSpoken }
-    ensures spelled { IfSome result (λ line. text_of line ≡ codes "move" ++ codes " " ++ numbers.now) }
+// A move, which is of no pass: it is taken as pass 0's.
+fn moved(x: i32, y: i32, a: u32) -> ScriptLine
+    ensures value { result ≡ ScriptLine.Asked (record { pass = 0; event = Event.Move x y a }) }
 {
-    let (x, y) = numbers.split_once(' ')?;
+    let event = Event::Move { x, y, a };
+    ScriptLine::Asked(PlainAsked { pass: 0, event })
+}
+
+// `move X Y`, by its numbers: the altitude is 0.
+fn low_move(x: &str, y: &str) -> Option<ScriptLine>
+    ensures spoken { IfSome result IsSpoken }
+    ensures spelled { IfSome result (λ line. Says line (codes "move" ++ codes " " ++ (x.now ++ codes " " ++ y.now))) }
+{
     let x = coordinate(x)?;
     let y = coordinate(y)?;
-    let event = Event::Move { x, y };
-    Some(ScriptLine::Asked(PlainAsked { pass: 0, event }))
+    Some(moved(x, y, 0))
+}
+
+// `move X Y A`, by its numbers.
+fn high_move(x: &str, y: &str, a: &str) -> Option<ScriptLine>
+    ensures spoken { IfSome result IsSpoken }
+    ensures spelled { IfSome result (λ line. Says line (codes "move" ++ codes " " ++ (x.now ++ codes " " ++ (y.now ++ codes " " ++ a.now)))) }
+{
+    let x = coordinate(x)?;
+    let y = coordinate(y)?;
+    let a = altitude(a)?;
+    Some(moved(x, y, a))
+}
+
+// `move X Y` or `move X Y A`, by its first number and those after it.
+fn move_from(x: &str, rest: &str) -> Option<ScriptLine>
+    ensures spoken { IfSome result IsSpoken }
+    ensures spelled { IfSome result (λ line. Says line (codes "move" ++ codes " " ++ (x.now ++ codes " " ++ rest.now))) }
+{
+    match rest.split_once(' ') {
+        Some((y, a)) => high_move(x, y, a),
+        None => low_move(x, rest),
+    }
+}
+
+// `move X Y` or `move X Y A`, by its numbers.
+fn move_line(numbers: &str) -> Option<ScriptLine>
+    ensures spoken { IfSome result IsSpoken }
+    ensures spelled { IfSome result (λ line. Says line (codes "move" ++ codes " " ++ numbers.now)) }
+{
+    let (x, rest) = numbers.split_once(' ')?;
+    move_from(x, rest)
 }
 
 // `publish l`, likewise.
 fn publish_line(level: &str) -> Option<ScriptLine>
     ensures spoken { IfSome result IsSpoken }
-    ensures spelled { IfSome result (λ line. text_of line ≡ codes "publish" ++ codes " " ++ level.now) }
+    ensures spelled { IfSome result (λ line. Says line (codes "publish" ++ codes " " ++ level.now)) }
 {
     let level = natural(level, 0, 11)?;
     let event = Event::Publish { level };
@@ -79,7 +116,7 @@ fn pass_event(name: &str) -> Option<Event>
 fn pass_line(event: Event, pass: &str) -> Option<ScriptLine>
     requires names_pass { NamesPass event }
     ensures spoken { IfSome result IsSpoken }
-    ensures spelled { IfSome result (λ line. text_of line ≡ word_of event ++ codes " " ++ pass.now) }
+    ensures spelled { IfSome result (λ line. Says line (word_of event ++ codes " " ++ pass.now)) }
 {
     let pass = natural(pass, 0, 15)?;
     Some(ScriptLine::Asked(PlainAsked { pass, event }))
@@ -88,7 +125,7 @@ fn pass_line(event: Event, pass: &str) -> Option<ScriptLine>
 // A line that isn't skipped: its first word, and the numbers after it.
 fn spoken_line(name: &str, numbers: &str) -> Option<ScriptLine>
     ensures spoken { IfSome result IsSpoken }
-    ensures spelled { IfSome result (λ line. text_of line ≡ name.now ++ codes " " ++ numbers.now) }
+    ensures spelled { IfSome result (λ line. Says line (name.now ++ codes " " ++ numbers.now)) }
 {
     if name == "size" {
         size_line(numbers)
@@ -114,7 +151,7 @@ fn is_skipped(line: &[u8]) -> bool
 // A line that isn't skipped.
 fn read_words(line: &[u8]) -> Option<ScriptLine>
     ensures spoken { IfSome result IsSpoken }
-    ensures spelled { IfSome result (λ said. text_of said ≡ line.now) }
+    ensures spelled { IfSome result (λ said. Says said line.now) }
 {
     let Ok(text) = str::from_utf8(line) else {
         return None;
@@ -127,7 +164,7 @@ fn read_words(line: &[u8]) -> Option<ScriptLine>
 pub(crate) fn script_line(line: &[u8]) -> Option<ScriptLine>
     ensures skipped { IsTrue (is_skipped line.now) ↔ (result ≡ Some ScriptLine.Skipped) }
     ensures in_range { IfSome result IsInRange }
-    ensures spelled { is_skipped line.now ≡ false → IfSome result (λ said. text_of said ≡ line.now) }
+    ensures spelled { is_skipped line.now ≡ false → IfSome result (λ said. Says said line.now) }
 {
     if is_skipped(line) {
         return Some(ScriptLine::Skipped);

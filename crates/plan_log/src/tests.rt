@@ -14,7 +14,25 @@ use std::test::Fail;
 #[test]
 fn reads_lines(rt: HostRuntime) {
     for (line, pass, event) in [
-        ("move 0 -4194304", 0, Event::Move { x: 0, y: -4194304 }),
+        (
+            "move 0 -4194304",
+            0,
+            Event::Move {
+                x: 0,
+                y: -4194304,
+                a: 0,
+            },
+        ),
+        (
+            "move 1 -1 1048576",
+            0,
+            Event::Move {
+                x: 1,
+                y: -1,
+                a: 1048576,
+            },
+        ),
+        ("move 1 1 0", 0, Event::Move { x: 1, y: 1, a: 0 }),
         ("claim 0", 0, Event::Claim),
         ("finish 15", 15, Event::Finish),
         ("publish 11", 0, Event::Publish { level: 11 }),
@@ -56,7 +74,10 @@ fn refuses_lines(rt: HostRuntime) {
         "move 1 4194305",
         "move -4194305 1",
         "move 1",
-        "move 1 1 1",
+        "move 1 1 -1",
+        "move 1 1 01",
+        "move 1 1 1048577",
+        "move 1 1 1 1",
         "claim",
         "claim ",
         "claim 16",
@@ -110,6 +131,16 @@ fn plays_a_script(rt: HostRuntime) {
     let script = b"#\xff\nsize 4 1\nfinish 3\nend 3\n\nbegin 0\nclaim 0\nend 0";
     let log =
         b"finish 3: nojob\nend 3: noframe\nbegin 0: frame 0\nclaim 0: haswork\nend 0: closed 0\n";
+    let (got, ended) = logged(rt.alloc(), script);
+    assert_eq!(rt; ended, Ok(()));
+    assert_eq!(rt; got.as_slice(), log.as_slice());
+}
+
+#[test]
+fn writes_an_altitude_where_it_is_not_0(rt: HostRuntime) {
+    let script = b"size 4 2\nmove 1 1 17\nclaim 0\nmove 1 1 0\npublish 0";
+    let log = b"move 1 1 17: moved\nclaim 0: job level 1 block -1 -1 cells -6 -6 -1 -1 plan 0\n\
+        move 1 1: moved\npublish 0: waiting 9\n";
     let (got, ended) = logged(rt.alloc(), script);
     assert_eq!(rt; ended, Ok(()));
     assert_eq!(rt; got.as_slice(), log.as_slice());
