@@ -1,5 +1,6 @@
 //! Worked examples of whole meshes.
 
+ghost use Rattle.plan_model.specs.Limits.{IsSize};
 ghost use Rattle.std.specs.Prelude.{◌≤◌, length};
 
 use crate::{Head, PlainMesh, are_drawn, few_triangles, few_vertices, kept_text, mesh, whole_text};
@@ -60,8 +61,7 @@ fn mesh_over(
     actives: &[Region],
 ) -> Result<PlainMesh, NoMemory>
     requires few { length actives.now ≤ 12 }
-    requires low { 4 ≤ k }
-    requires high { k ≤ 8 }
+    requires size { IsSize k }
 {
     let terrain = flat(alloc)?;
     assert!(rt; are_drawn(actives));

@@ -1,6 +1,7 @@
 //! The mesh of some parts.
 
 ghost use Rattle.std.specs.Prelude.{◌≡◌, ◌+◌, ◌^◌, ◌<◌, ◌≤◌, ◌++◌, ◌∷◌, [], IfOk, OnOk, flat_map, length};
+ghost use Rattle.plan_model.specs.Limits.{IsSize};
 ghost use Rattle.mesh_model.specs.Mesh.{part_at as part_in_mesh, parts_from, mesh_of_parts as mesh_with, mesh as mesh_of};
 ghost use Rattle.mesh_model.specs.Vertices.{listed_vertices};
 ghost use Rattle.mesh_plain.specs.Frames.{AreDrawn};
@@ -170,8 +171,7 @@ pub fn mesh_of_parts(
 /// [`are_drawn`](crate::are_drawn) tests the regions, and [`few_vertices`](crate::few_vertices) and
 /// [`few_triangles`](crate::few_triangles) that the mesh is small enough.
 pub fn mesh(alloc: Global, terrain: &Grid, k: u8, actives: &[Region]) -> Result<PlainMesh, NoMemory>
-    requires low { 4 ≤ k }
-    requires high { k ≤ 8 }
+    requires size { IsSize k }
     requires levels { length actives.now ≤ 12 }
     requires drawn { AreDrawn 0 actives.now }
     requires few_vertices { length (listed_vertices actives.now) < 2 ^ 31 }

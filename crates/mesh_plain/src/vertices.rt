@@ -1,6 +1,7 @@
 //! The vertices of a mesh.
 
 ghost use Rattle.std.specs.Prelude.{◌≡◌, ◌≤◌, IfOk, All, length, map};
+ghost use Rattle.plan_model.specs.Limits.{IsSize};
 ghost use Rattle.mesh_model.specs.Vertices.{vertex_at as vertex_of_cell, mesh_vertices as vertices_of_mesh};
 ghost use Rattle.mesh_plain.specs.Rings.{level_cell};
 ghost use Rattle.mesh_plain_heights.specs.Drawn.{IsDrawnCell};
@@ -16,8 +17,7 @@ use std::alloc::{AllocError, Global};
 
 // The vertex at a cell.
 fn vertex_at(terrain: &Grid, k: u8, actives: &[Region], cell: &Cell) -> Vertex
-    requires low { 4 ≤ k }
-    requires high { k ≤ 8 }
+    requires size { IsSize k }
     requires levels { length actives.now ≤ 12 }
     requires cell { IsDrawnCell actives.now cell.now }
     ensures { result ≡ vertex_of_cell terrain.now k actives.now (level_cell cell.now) }
@@ -38,8 +38,7 @@ fn vertices_at(
     actives: &[Region],
     cells: &[Cell],
 ) -> Result<Vec<Vertex>, AllocError>
-    requires low { 4 ≤ k }
-    requires high { k ≤ 8 }
+    requires size { IsSize k }
     requires levels { length actives.now ≤ 12 }
     requires cells { All (IsDrawnCell actives.now) cells.now }
     ensures { IfOk result (λ vertices. vertices.items ≡ map (λ cell. vertex_of_cell terrain.now k actives.now (level_cell cell)) cells.now) }
@@ -59,8 +58,7 @@ pub fn mesh_vertices(
     k: u8,
     actives: &[Region],
 ) -> Result<Vec<Vertex>, NoMemory>
-    requires low { 4 ≤ k }
-    requires high { k ≤ 8 }
+    requires size { IsSize k }
     requires levels { length actives.now ≤ 12 }
     requires drawn { AreDrawn 0 actives.now }
     ensures value { IfOk result (λ v. v.items ≡ vertices_of_mesh terrain.now k actives.now) }

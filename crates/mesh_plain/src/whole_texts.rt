@@ -1,6 +1,7 @@
 //! The text of a whole mesh.
 
 ghost use Rattle.std.specs.Prelude.{◌≡◌, ◌^◌, ◌<◌, ◌≤◌, IfOk, length};
+ghost use Rattle.plan_model.specs.Limits.{IsSize};
 ghost use Rattle.mesh_model.specs.Mesh.{mesh as mesh_of};
 ghost use Rattle.mesh_model.specs.Text.{frame_text as text_of_frame};
 ghost use Rattle.mesh_model.specs.Seen.{seen_text as text_of_seen};
@@ -23,8 +24,7 @@ pub fn whole_text(
     k: u8,
     actives: &[Region],
 ) -> Result<Vec<u8>, NoMemory>
-    requires low { 4 ≤ k }
-    requires high { k ≤ 8 }
+    requires size { IsSize k }
     requires levels { length actives.now ≤ 12 }
     requires drawn { AreDrawn 0 actives.now }
     requires few_vertices { length (listed_vertices actives.now) < 2 ^ 31 }
@@ -45,8 +45,7 @@ pub fn kept_text(
     actives: &[Region],
     keep: &[bool],
 ) -> Result<Vec<u8>, NoMemory>
-    requires low { 4 ≤ k }
-    requires high { k ≤ 8 }
+    requires size { IsSize k }
     requires levels { length actives.now ≤ 12 }
     requires drawn { AreDrawn 0 actives.now }
     requires few_vertices { length (listed_vertices actives.now) < 2 ^ 31 }

@@ -2,6 +2,7 @@
 
 ghost use Rattle.std.specs.Prelude.{◌≡◌, ℕ, ◌+◌, ◌/◌, ◌^◌, ◌≤◌, ◌<◌, ◌&&◌, IsTrue, true, false, ℤ, pos, neg_ℤ, ◌+ℤ◌, ◌-ℤ◌, ◌*ℤ◌, ◌≤ℤ◌, length};
 ghost use Rattle.clip_regions.specs.Regions.{IsWithin, contains};
+ghost use Rattle.plan_model.specs.Limits.{IsSize};
 ghost use Rattle.plan_model.specs.Window.{blend_width as width_of_blend};
 ghost use Rattle.terrain_model.specs.Terrain.{level_height};
 ghost use Rattle.mesh_model.specs.Height.{border_distance as distance_of, blend_share as share_of, lower_end as lower_of, upper_end as upper_of, active_of, blended_height, vertex_height as height_of_vertex};
@@ -32,8 +33,7 @@ pub fn border_distance(region: &Region, cell: &Cell) -> i32
 /// How much of the blend width goes to the coarser level: all at the border, and nothing from the blend
 /// width on or at the coarsest level.
 pub fn blend_share(k: u8, coarsest: bool, region: &Region, cell: &Cell) -> i32
-    requires low { 4 ≤ k }
-    requires high { k ≤ 8 }
+    requires size { IsSize k }
     requires region { IsWithin (2 ^ 24) region.now }
     requires west { neg_ℤ (pos (2 ^ 24)) ≤ℤ cell.now.i }
     requires east { cell.now.i ≤ℤ pos (2 ^ 24) }
@@ -65,8 +65,7 @@ pub fn upper_end(i: i32) -> i32
 
 // How many thirty-seconds of a metre one cell of the blend width gives of a height: 32 over that width.
 fn own_scale(k: u8) -> i32
-    requires low { 4 ≤ k }
-    requires high { k ≤ 8 }
+    requires { IsSize k }
     ensures value { result ≡ pos (32 / width_of_blend k) }
     ensures few { result ≤ℤ pos 32 }
 {
@@ -81,8 +80,7 @@ fn own_scale(k: u8) -> i32
 
 // The same for each of two coarser heights: 16 over the blend width.
 fn coarser_scale(k: u8) -> i32
-    requires low { 4 ≤ k }
-    requires high { k ≤ 8 }
+    requires { IsSize k }
     ensures value { result ≡ pos (16 / width_of_blend k) }
     ensures few { result ≤ℤ pos 32 }
 {
@@ -97,8 +95,7 @@ fn coarser_scale(k: u8) -> i32
 
 // The weight of a cell's own height, where the coarser heights have this share of the blend width.
 fn own_weight(k: u8, share: i32) -> i32
-    requires low { 4 ≤ k }
-    requires high { k ≤ 8 }
+    requires size { IsSize k }
     requires some { pos 0 ≤ℤ share }
     requires within { share ≤ℤ pos (width_of_blend k) }
     ensures value { result ≡ weight_of_own k share }
@@ -110,8 +107,7 @@ fn own_weight(k: u8, share: i32) -> i32
 
 // The weight of each of the two coarser heights, where they have this share of the blend width.
 fn coarser_weight(k: u8, share: i32) -> i32
-    requires low { 4 ≤ k }
-    requires high { k ≤ 8 }
+    requires size { IsSize k }
     requires some { pos 0 ≤ℤ share }
     requires within { share ≤ℤ pos (width_of_blend k) }
     ensures value { result ≡ weight_of_coarser k share }
@@ -137,8 +133,7 @@ fn weighted(weight: i32, height: i32) -> i32
 // The mean of a cell's own height and of two coarser heights that have this share of the blend width:
 // heights in metres give thirty-seconds.
 fn blended(k: u8, share: i32, own: i16, a: i16, b: i16) -> i32
-    requires low { 4 ≤ k }
-    requires high { k ≤ 8 }
+    requires size { IsSize k }
     requires some { pos 0 ≤ℤ share }
     requires within { share ≤ℤ pos (width_of_blend k) }
     ensures { result ≡ blended_by k share own a b }
@@ -179,8 +174,7 @@ fn coarsest_height(terrain: &Grid, cell: &Cell) -> i32
 
 // The height of a vertex of a level that has a coarser one.
 fn finer_height(terrain: &Grid, k: u8, active: &Region, cell: &Cell) -> i32
-    requires low { 4 ≤ k }
-    requires high { k ≤ 8 }
+    requires size { IsSize k }
     requires level { cell.now.level < 11 }
     requires near { IsWithin (2 ^ 24) active.now }
     requires inside { contains active.now cell.now.i cell.now.j ≡ true }
@@ -210,8 +204,7 @@ fn active_of(actives: &[Region], level: u8) -> Region
 /// The height of the vertex at a cell of the active region of its level, in thirty-seconds of a metre,
 /// for windows of side 2^k - 2 and the active regions of at most 12 levels, finest first.
 pub fn vertex_height(terrain: &Grid, k: u8, actives: &[Region], cell: &Cell) -> i32
-    requires low { 4 ≤ k }
-    requires high { k ≤ 8 }
+    requires size { IsSize k }
     requires levels { length actives.now ≤ 12 }
     requires cell { IsDrawnCell actives.now cell.now }
     ensures value { result ≡ height_of_vertex terrain.now k actives.now cell.now.level cell.now.i cell.now.j }

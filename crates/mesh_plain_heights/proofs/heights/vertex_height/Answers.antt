@@ -13,7 +13,7 @@ returns-then-from-actives c =
     record {
       value = read_32 (record { sfits = c.coarsest_height.type_inv })
           (c.coarsest_height.ensures
-          ∙ sym (coarsest_is c.args.k (active_of c.args.actives.now c.args.cell.now.level) c.args.cell.now.i c.args.cell.now.j _ _ _ c.requires.low c.requires.high)
+          ∙ sym (coarsest_is c.args.k (active_of c.args.actives.now c.args.cell.now.level) c.args.cell.now.i c.args.cell.now.j _ _ _ c.requires.size.low c.requires.size.high)
           ∙ vertex_is c.args.terrain.now c.args.k c.args.actives.now c.args.cell.now.level c.args.cell.now.i c.args.cell.now.j true last);
     }
 
