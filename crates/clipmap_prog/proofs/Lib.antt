@@ -3,7 +3,10 @@ pub mod Concluding
 pub mod Drawing
 pub mod Ends
 mod Examples
+pub mod Fetching
 pub mod Lists
+pub mod Mosaics
+pub mod Readings
 pub mod Sides
 pub mod Squares
 pub mod Tiles

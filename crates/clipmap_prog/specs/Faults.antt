@@ -1,20 +1,24 @@
 -- Why a command is refused, and the line that says so.
 use Rattle.std.specs.Prelude.{ℕ, List, [], ◌++◌, codes, decimal}
+use Rattle.std.specs.Fmt.{signed_decimal}
 use Rattle.hgt_tiles.specs.declared.tiles.TileFault.{TileFault}
 use Rattle.hgt_tiles.specs.declared.tiles.TileFault.TheVariants as tile
+use Rattle.mosaic.specs.declared.fault.MosaicFault.{MosaicFault}
+use Rattle.mosaic.specs.declared.fault.MosaicFault.TheVariants as mosaic
 use Rattle.clipmap_prog.specs.declared.fault.FileFault.{FileFault}
 use Rattle.clipmap_prog.specs.declared.fault.FileFault.TheVariants as file
 use Rattle.clipmap_prog.specs.declared.fault.Fault.{Fault}
 use Rattle.clipmap_prog.specs.declared.fault.Fault.TheVariants as fault
 
--- why a command is refused: its words are no command, the form isn't built, a word is no tile's name, or a file or the
--- tile in it is faulty
+-- why a command is refused: its words are no command, the form isn't built, a word is no tile's name, a file or the
+-- tile in it is faulty, or the tiles make no terrain together
 pub data Cause : Type 0 where
   Words : Cause
   NotYet : Cause
   BadName : List ℕ → Cause
   File : List ℕ → FileFault → Cause
   Tile : List ℕ → TileFault → Cause
+  Mosaic : MosaicFault → Cause
 
 -- the line of a file of that name that can't be had
 abbrev pub file_line : List ℕ → FileFault → List ℕ
@@ -27,6 +31,16 @@ abbrev pub tile_line : List ℕ → TileFault → List ℕ
 tile_line name (tile.BadLength length) = codes "fault: BadLength " ++ (name ++ (codes " " ++ (decimal length ++ codes "\n")))
 tile_line name tile.NoMemory = []
 
+-- the line of tiles that make no terrain together. That there is no tile is no command's, and want of memory has none
+abbrev pub mosaic_line : MosaicFault → List ℕ
+mosaic_line mosaic.Empty = []
+mosaic_line (mosaic.Twice corner) =
+    codes "fault: Twice " ++ (signed_decimal corner.lat ++ (codes " " ++ (signed_decimal corner.lon ++ codes "\n")))
+mosaic_line (mosaic.SidesDiffer first other) =
+    codes "fault: SidesDiffer " ++ (decimal first ++ (codes " " ++ (decimal other ++ codes "\n")))
+mosaic_line (mosaic.TooLarge samples) = codes "fault: TooLarge " ++ (decimal samples ++ codes "\n")
+mosaic_line mosaic.NoMemory = []
+
 -- the line of a fault
 abbrev pub cause_line : Cause → List ℕ
 cause_line Words = codes "fault: words\n"
@@ -34,6 +48,7 @@ cause_line NotYet = codes "fault: NotYet\n"
 cause_line (BadName word) = codes "fault: BadName " ++ (word ++ codes "\n")
 cause_line (File name fault) = file_line name fault
 cause_line (Tile name fault) = tile_line name fault
+cause_line (Mosaic fault) = mosaic_line fault
 
 -- the cause that a fault of the program's stands for
 abbrev pub cause_of : Fault → Cause
@@ -42,3 +57,4 @@ cause_of fault.NotYet = NotYet
 cause_of (fault.BadName word) = BadName word.now
 cause_of (fault.File name which) = File name.now which
 cause_of (fault.Tile name which) = Tile name.now which
+cause_of (fault.Mosaic which) = Mosaic which

@@ -1,14 +1,19 @@
 -- What INPUT words come to: tiles, read from the files of their names.
-use Rattle.std.specs.Prelude.{ℕ, ◌==◌, List, [], ◌∷◌, length, Option, Some, None, Result, Ok, Err, nat_lt, if◌then◌else◌}
+use Rattle.std.specs.Prelude.{ℕ, List, [], ◌∷◌, length, map as list_map, sum_by, Option, Some, None, Result, Ok, Err, nat_lt, if◌then◌else◌}
 use Rattle.std.specs.FinMap as map
 use Rattle.outer_shelf.specs.Outside.{Files}
 use Rattle.terrain_model.specs.Terrain.{Terrain}
 use Rattle.terrain_model.specs.Name.{corner_of_word}
+use Rattle.terrain_model.specs.Mosaic.{first_side, tiles_terrain}
 use Rattle.terrain_model.specs.declared.Corner.{Corner}
-use Rattle.hgt_tiles.specs.TileView.{TileView, tile_of_bytes}
+use Rattle.hgt_tiles.specs.TileView.{TileView, placed, tile_of_bytes}
 use Rattle.hgt_tiles.specs.declared.tiles.TileFault.TheVariants.{BadLength}
+use Rattle.mosaic.specs.Faults.{mosaic_fault}
+use Rattle.mosaic.specs.declared.fault.MosaicFault.{MosaicFault}
 use Rattle.clipmap_words.specs.Names.{is_store}
-use Rattle.clipmap_prog.specs.Faults.{Cause, NotYet, BadName, File, Tile}
+use Rattle.clipmap_prog.specs.Faults.{Cause, NotYet, BadName, File, Tile, Mosaic}
+use Rattle.clipmap_prog.specs.declared.inputs.Inputs.{Inputs}
+use Rattle.clipmap_prog.specs.declared.tile_files.Named.{Named}
 use Rattle.clipmap_prog.specs.declared.fault.FileFault.TheVariants.{Absent, TooLong}
 use Rattle.clipmap_prog.specs.Reading.{Reading, unfetched, fetched, and_then, each_of}
 
@@ -44,14 +49,10 @@ named_by word (Some corner) = Ok (record { name = word; corner = corner })
 abbrev pub name_reading : List ℕ → Reading NamedTile
 name_reading word = unfetched (named_by word (corner_of_word word))
 
--- a tile with voids isn't built yet
-abbrev pub whole_tile : TileView → Result TileView Cause
-whole_tile tile = if tile.voids == 0 then Ok tile else Err NotYet
-
 -- the tile of a file's bytes, if their length is that of a tile
 abbrev pub tile_of_length : List ℕ → ℕ → Option TileView → Result TileView Cause
 tile_of_length name length None = Err (Tile name (BadLength length))
-tile_of_length name length (Some tile) = whole_tile tile
+tile_of_length name length (Some tile) = Ok tile
 
 -- the tile of a file, if it is there and no longer than the limit
 abbrev pub tile_of_file : NamedTile → Option (List ℕ) → Result TileView Cause
@@ -64,21 +65,49 @@ tile_of_file named (Some bytes) =
 abbrev pub tile_reading : Files → NamedTile → Reading TileView
 tile_reading files named = fetched (tile_of_file named (map.get files named.name))
 
--- one tile as inputs
-abbrev pub one_tile : TileView → InputsView
-one_tile tile = Tiles (record { terrain = tile.terrain; number = 1; side = tile.terrain.width; voids = tile.voids })
+-- the inputs that tiles make together: the terrain of the set, how many they are, their side, and all of their voids
+abbrev pub inputs_of : List TileView → InputsView
+inputs_of tiles = Tiles (record {
+  terrain = tiles_terrain (list_map placed tiles);
+  number = length tiles;
+  side = first_side (list_map placed tiles);
+  voids = sum_by (λ tile. tile.voids) tiles;
+})
 
--- tiles put together: more than one isn't built yet
+-- the same, where the set has no fault
+abbrev pub joined_by : List TileView → Option MosaicFault → Result InputsView Cause
+joined_by tiles None = Ok (inputs_of tiles)
+joined_by tiles (Some fault) = Err (Mosaic fault)
+
+-- tiles put together: a corner that two of them have, sides that differ and too many samples are faults of the set
 abbrev pub joined : List TileView → Result InputsView Cause
-joined (tile ∷ []) = Ok (one_tile tile)
-joined _ = Err NotYet
+joined tiles = joined_by tiles (mosaic_fault tiles)
 
--- tiles by their names: all names are judged, and then each file is fetched and read
+-- named tiles: each file is fetched and read in its turn, and then the set is judged
+abbrev pub named_reading : Files → List NamedTile → Reading InputsView
+named_reading files named = and_then (each_of (tile_reading files) named) (λ tiles. unfetched (joined tiles))
+
+-- tiles by their names: all names are judged before any file is fetched
 abbrev pub tiles_reading : List (List ℕ) → Files → Reading InputsView
-tiles_reading names files =
-    and_then (each_of name_reading names) (λ named. and_then (each_of (tile_reading files) named) (λ tiles. unfetched (joined tiles)))
+tiles_reading names files = and_then (each_of name_reading names) (named_reading files)
 
--- the inputs: more than one of them and stores aren't built yet
-unfoldable pub inputs_reading : List (List ℕ) → Files → Reading InputsView
-inputs_reading (name ∷ []) files = if is_store name then unfetched (Err NotYet) else tiles_reading (name ∷ []) files
-inputs_reading _ files = unfetched (Err NotYet)
+-- the name of the store, where the one input is a store
+abbrev pub store_name : List (List ℕ) → Option (List ℕ)
+store_name (name ∷ []) = if is_store name then Some name else None
+store_name _ = None
+
+-- the inputs: tiles, since stores aren't built yet
+abbrev pub inputs_by : List (List ℕ) → Files → Option (List ℕ) → Reading InputsView
+inputs_by names files (Some store) = unfetched (Err NotYet)
+inputs_by names files None = tiles_reading names files
+
+abbrev pub inputs_reading : List (List ℕ) → Files → Reading InputsView
+inputs_reading names files = inputs_by names files (store_name names)
+
+-- a name and its corner as contracts see them
+abbrev pub named_view : Named → NamedTile
+named_view named = record { name = named.name.now; corner = named.corner }
+
+-- inputs as contracts see them
+abbrev pub inputs_view : Inputs → InputsView
+inputs_view inputs = Tiles (record { terrain = inputs.grid; number = inputs.number; side = inputs.side; voids = inputs.voids })

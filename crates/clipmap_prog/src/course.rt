@@ -7,7 +7,7 @@ ghost use Rattle.clipmap_prog.specs.Runs.{HadReason, Ran};
 use crate::draw::{Drawn, draw};
 use crate::halt::Halt;
 use crate::output::{put, write};
-use hgt_tiles::HgtTile;
+use height_pyramid::Grid;
 use outer_shelf::{Shelf, Sink};
 use std::alloc::Global;
 
@@ -42,22 +42,22 @@ fn write_frame<S: Shelf, K: Sink>(
     }
 }
 
-/// Does the course over the terrain of a tile with one level, under a name.
+/// Does the course over a terrain with one level, under a name.
 pub(crate) fn run_course<S: Shelf, K: Sink>(
     alloc: Global,
-    tile: &HgtTile,
+    grid: &Grid,
     course: &Course,
     name: &str,
     shelf: &mut S,
     out: &mut K,
 ) -> Result<(), Halt>
     requires in_range { IsCourseInRange (course_view course.now) }
-    ensures ran { Ran S.leaves 0 (course_actions (course_view course.now) tile.now.terrain 1 name.now) result
+    ensures ran { Ran S.leaves 0 (course_actions (course_view course.now) grid.now 1 name.now) result
         (S.told shelf.old) (S.told shelf.new) (K.told out.old) (K.told out.new) }
     ensures reason { HadReason result (S.told shelf.old) (S.told shelf.new) (K.told out.old) (K.told out.new) }
 {
     match *course {
-        Course::Frame { k, x, y } => match draw(alloc, tile, k, x, y) {
+        Course::Frame { k, x, y } => match draw(alloc, grid, k, x, y) {
             Ok(drawn) => write_frame(shelf, out, name, &drawn),
             Err(_) => Err(Halt::NoMemory),
         },

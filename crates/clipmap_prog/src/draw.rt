@@ -4,7 +4,7 @@ ghost use Rattle.plan_model.specs.Limits.{IsSize, IsViewed};
 ghost use Rattle.clipmap_prog.specs.WholeFrame.{told_line, whole_line, whole_text};
 
 use crate::level_mesh::level_mesh;
-use hgt_tiles::HgtTile;
+use height_pyramid::Grid;
 use level_frame::window;
 use mesh_model::one_level_mesh;
 use obj_frames::{Header, Mesh, NoMemory, frame_text};
@@ -31,16 +31,16 @@ fn frame_line(
     format!(in alloc; "frame {number} vertices {vertices} triangles {triangles}\n")
 }
 
-/// Draws frame 0 with the window whole round a viewer, over a tile.
-pub(crate) fn draw(alloc: Global, tile: &HgtTile, k: u8, x: i32, y: i32) -> Result<Drawn, NoMemory>
+/// Draws frame 0 with the window whole round a viewer, over a terrain.
+pub(crate) fn draw(alloc: Global, grid: &Grid, k: u8, x: i32, y: i32) -> Result<Drawn, NoMemory>
     requires k { IsSize k }
     requires x { IsViewed x }
     requires y { IsViewed y }
-    ensures text { IfOk result (λ drawn. drawn.text.items ≡ whole_text k 1 x y tile.now.terrain) }
-    ensures line { IfOk result (λ drawn. string_bytes drawn.line ≡ whole_line k 1 x y tile.now.terrain) }
+    ensures text { IfOk result (λ drawn. drawn.text.items ≡ whole_text k 1 x y grid.now) }
+    ensures line { IfOk result (λ drawn. string_bytes drawn.line ≡ whole_line k 1 x y grid.now) }
 {
     let active = window(k, 0, x, y);
-    let mesh = level_mesh(alloc, tile, &active)?;
+    let mesh = level_mesh(alloc, grid, &active)?;
     one_level_mesh();
     let header = Header {
         number: 0,

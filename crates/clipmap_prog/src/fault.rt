@@ -1,9 +1,10 @@
 //! Why a command is refused. A fault of a lower crate is kept as that crate has it, and one function a crate writes
 //! its line.
 ghost use Rattle.std.specs.Prelude.{◌≡◌, IfOk, string_bytes};
-ghost use Rattle.clipmap_prog.specs.Faults.{cause_line, cause_of, file_line, tile_line};
+ghost use Rattle.clipmap_prog.specs.Faults.{cause_line, cause_of, file_line, mosaic_line, tile_line};
 
-use hgt_tiles::TileFault;
+use hgt_tiles::{Corner, TileFault};
+use mosaic::MosaicFault;
 use std::alloc::{AllocError, Global};
 
 /// Why a file can't be had.
@@ -33,6 +34,8 @@ pub(crate) enum Fault<'a> {
     File(&'a str, FileFault),
     /// The file of that name is no tile.
     Tile(&'a str, TileFault),
+    /// The tiles make no terrain together.
+    Mosaic(MosaicFault),
 }
 
 /// The line of a file of that name that can't be had.
@@ -57,6 +60,24 @@ fn tile_line(alloc: Global, name: &str, fault: TileFault) -> Result<String, Allo
     }
 }
 
+/// The line of tiles that make no terrain together. Every command has a tile, and want of memory is no refusal: these two
+/// have no line.
+fn mosaic_line(alloc: Global, fault: MosaicFault) -> Result<String, AllocError>
+    ensures line { IfOk result (λ line. string_bytes line ≡ mosaic_line fault) }
+{
+    match fault {
+        MosaicFault::Twice { corner } => {
+            let Corner { lat, lon } = corner;
+            format!(in alloc; "fault: Twice {lat} {lon}\n")
+        }
+        MosaicFault::SidesDiffer { first, other } => {
+            format!(in alloc; "fault: SidesDiffer {first} {other}\n")
+        }
+        MosaicFault::TooLarge { samples } => format!(in alloc; "fault: TooLarge {samples}\n"),
+        MosaicFault::Empty | MosaicFault::NoMemory => Ok(String::new(alloc)),
+    }
+}
+
 /// The line that tells a user of the fault.
 pub(crate) fn fault_line(alloc: Global, fault: Fault<'_>) -> Result<String, AllocError>
     ensures line { IfOk result (λ line. string_bytes line ≡ cause_line (cause_of fault.entry)) }
@@ -67,5 +88,6 @@ pub(crate) fn fault_line(alloc: Global, fault: Fault<'_>) -> Result<String, Allo
         Fault::BadName(word) => format!(in alloc; "fault: BadName {word}\n"),
         Fault::File(name, fault) => file_line(alloc, name, fault),
         Fault::Tile(name, fault) => tile_line(alloc, name, fault),
+        Fault::Mosaic(fault) => mosaic_line(alloc, fault),
     }
 }

@@ -1,9 +1,9 @@
 //! The command `frame`.
-ghost use Rattle.std.specs.Prelude.{◌≡◌, ◌≤◌, ◌⊎◌, IfOk, IfSome};
+ghost use Rattle.std.specs.Prelude.{◌≡◌, ◌≤◌, ◌⊎◌, IfOk, IfSome, length};
 ghost use Rattle.outer_shelf.specs.Counts.{Rose};
 ghost use Rattle.clipmap_words.specs.Frame.{IsFrameInRange, frame_view};
 ghost use Rattle.clipmap_prog.specs.Frame.{frame_outcome, frame_over, frame_reading};
-ghost use Rattle.clipmap_prog.specs.Inputs.{one_tile};
+ghost use Rattle.clipmap_prog.specs.Inputs.{inputs_view};
 ghost use Rattle.clipmap_prog.specs.Promise.{Runs};
 ghost use Rattle.clipmap_prog.specs.Reading.{Finds, OnStop};
 ghost use Rattle.clipmap_prog.specs.Runs.{CallsWithin, HadReason};
@@ -11,23 +11,23 @@ ghost use Rattle.clipmap_prog.specs.Runs.{CallsWithin, HadReason};
 use crate::course::{Course, run_course};
 use crate::fault::Fault;
 use crate::halt::Halt;
-use crate::inputs::read_inputs;
+use crate::inputs::{Inputs, read_inputs};
 use crate::output::{ended, write_fault};
 use crate::reading::Stop;
 use clipmap_words::FrameWords;
-use hgt_tiles::HgtTile;
 use outer_shelf::{Shelf, Sink};
 use std::alloc::Global;
 
-/// The tile that a frame is drawn over. One level is built.
+/// The inputs that a frame is drawn over. One level is built.
 #[tactic(auto, unfolding(crate::specs::Frame::frame_reading))]
 fn read_frame<'a, S: Shelf>(
     alloc: Global,
     shelf: &mut S,
     frame: &FrameWords<'a>,
-) -> Result<HgtTile, Stop<'a>>
+) -> Result<Inputs, Stop<'a>>
+    requires few_inputs { length frame.now.inputs.now ≤ 64 }
     ensures found { IfSome (S.told shelf.old).files
-        (λ files. Finds (λ tile. frame_over (frame_view frame.now) (one_tile tile)) result
+        (λ files. Finds (λ inputs. frame_over (frame_view frame.now) (inputs_view inputs)) result
         (frame_reading (frame_view frame.now) files).found) }
     ensures one_level { IfOk result (λ _. frame.now.levels ≤ 1) }
     ensures calls { IfSome (S.told shelf.old).files
@@ -58,10 +58,10 @@ pub(crate) fn run_frame<S: Shelf, K: Sink>(
     ensures reason { HadReason result (S.told shelf.old) (S.told shelf.new) (K.told out.old) (K.told out.new) }
 {
     match read_frame(alloc, shelf, frame) {
-        Ok(tile) => {
+        Ok(inputs) => {
             let FrameWords { k, x, y, .. } = *frame;
             let course = Course::Frame { k, x, y };
-            ended(0, run_course(alloc, &tile, &course, frame.out, shelf, out))
+            ended(0, run_course(alloc, &inputs.grid, &course, frame.out, shelf, out))
         }
         Err(Stop::Refused(fault)) => ended(2, write_fault(alloc, out, fault)),
         Err(Stop::Halted(halt)) => Err(halt),

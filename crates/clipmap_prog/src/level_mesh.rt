@@ -3,6 +3,7 @@ ghost use Rattle.std.specs.Prelude.{◌≡◌, ◌<◌, ◌≤◌, ◌^◌, ◌-
 ghost use Rattle.std.specs.List.{range_with_len};
 ghost use Rattle.clip_regions.specs.Regions.{IsPlaced, is_empty, columns, rows};
 ghost use Rattle.terrain_model.specs.Terrain.{height_at};
+ghost use Rattle.height_pyramid.specs.Reach.{IsInReach};
 ghost use Rattle.mesh_model.specs.OneLevel.{
   one_level_row,
   one_level_square,
@@ -15,40 +16,36 @@ ghost use Rattle.mesh_model.specs.Conditions.{IsInside};
 
 use crate::bounds::bounds_of;
 use clip_regions::Region;
-use hgt_tiles::HgtTile;
+use height_pyramid::Grid;
 use mesh_model::{box_holds, one_level_counts};
 use obj_frames::{Mesh, Part, PartKind, Vertex};
 use std::alloc::{AllocError, Global};
+use terrain_model::finest_level;
 
-/// The height in metres at a column from the west and a row from the north, and 0 outside the tile.
-#[tactic(auto, unfolding(terrain_model::specs::Terrain::height_at))]
-fn height(tile: &HgtTile, x: i32, y: i32) -> i16
-    ensures value { result ≡ height_at tile.now.terrain x y }
+/// The height in metres at a column from the west and a row from the north, and 0 outside the terrain.
+fn height(grid: &Grid, x: i32, y: i32) -> i16
+    requires column { IsInReach 0 x }
+    requires row { IsInReach 0 y }
+    ensures value { result ≡ height_at grid.now x y }
 {
-    if x < 0 || y < 0 {
-        return 0;
-    }
-    let (x, y) = (x as u32, y as u32);
-    if x >= tile.side() || y >= tile.side() {
-        return 0;
-    }
-    tile.height(x, y)
+    finest_level();
+    grid.level_height(0, x, y)
 }
 
 /// The vertex in a column and a row of a region, both counted from its north-west corner.
 #[tactic(auto, unfolding(mesh_model::specs::OneLevel::one_level_vertex))]
-fn vertex(tile: &HgtTile, region: &Region, row: u32, column: u32) -> Vertex
+fn vertex(grid: &Grid, region: &Region, row: u32, column: u32) -> Vertex
     requires placed { IsPlaced region.now }
     requires column { column < 2 ^ 16 }
     requires row { row < 2 ^ 16 }
-    ensures value { result ≡ one_level_vertex tile.now.terrain region.now row column }
+    ensures value { result ≡ one_level_vertex grid.now region.now row column }
 {
     let x = region.x0 + column as i32;
     let z = region.y0 + row as i32;
     Vertex {
         x,
         z,
-        height: 32 * i32::from(height(tile, x, z)),
+        height: 32 * i32::from(height(grid, x, z)),
     }
 }
 
@@ -77,7 +74,7 @@ fn rows_of(region: &Region) -> u32
 /// Appends a row of a region's vertices, so many of them from the west.
 fn append_row(
     vertices: &mut Vec<Vertex>,
-    tile: &HgtTile,
+    grid: &Grid,
     region: &Region,
     row: u32,
     width: u32,
@@ -85,10 +82,10 @@ fn append_row(
     requires placed { IsPlaced region.now }
     requires row { row < 2 ^ 16 }
     requires width { width < 2 ^ 16 }
-    ensures row { OnOk result (vertices.new.items ≡ vertices.old.items ++ map (one_level_vertex tile.now.terrain region.now row) (range_with_len 0 width)) }
+    ensures row { OnOk result (vertices.new.items ≡ vertices.old.items ++ map (one_level_vertex grid.now region.now row) (range_with_len 0 width)) }
 {
     for column in 0..width {
-        vertices.push(vertex(tile, region, row, column))?;
+        vertices.push(vertex(grid, region, row, column))?;
     }
     Ok(())
 }
@@ -97,7 +94,7 @@ fn append_row(
 #[tactic(auto, unfolding(mesh_model::specs::OneLevel::one_level_vertices, mesh_model::specs::OneLevel::one_level_row))]
 fn level_vertices(
     alloc: Global,
-    tile: &HgtTile,
+    grid: &Grid,
     region: &Region,
     width: u32,
     height: u32,
@@ -107,11 +104,11 @@ fn level_vertices(
     requires height { height ≡ rows region.now }
     requires few_columns { width ≤ 255 }
     requires few_rows { height ≤ 255 }
-    ensures vertices { IfOk result (λ vertices. vertices.items ≡ one_level_vertices tile.now.terrain region.now) }
+    ensures vertices { IfOk result (λ vertices. vertices.items ≡ one_level_vertices grid.now region.now) }
 {
     let mut vertices = Vec::with_capacity(alloc, width as usize * height as usize)?;
     for row in 0..height {
-        append_row(&mut vertices, tile, region, row, width)?;
+        append_row(&mut vertices, grid, region, row, width)?;
     }
     Ok(vertices)
 }
@@ -167,18 +164,18 @@ fn whole_part(vertices: &[Vertex], triangles: u32) -> Part
     }
 }
 
-/// The mesh of one level over a tile: its vertices row by row, and its squares' triangles row by row, in one part.
+/// The mesh of one level over a terrain: its vertices row by row, and its squares' triangles row by row, in one part.
 #[tactic(auto, unfolding(mesh_model::specs::OneLevel::one_level_triangles))]
-pub(crate) fn level_mesh(alloc: Global, tile: &HgtTile, active: &Region) -> Result<Mesh, AllocError>
+pub(crate) fn level_mesh(alloc: Global, grid: &Grid, active: &Region) -> Result<Mesh, AllocError>
     requires placed { IsPlaced active.now }
     requires some { is_empty active.now ≡ false }
     requires few_columns { columns active.now ≤ 255 }
     requires few_rows { rows active.now ≤ 255 }
-    ensures vertices { IfOk result (λ mesh. mesh.vertices ≡ one_level_vertices tile.now.terrain active.now) }
+    ensures vertices { IfOk result (λ mesh. mesh.vertices ≡ one_level_vertices grid.now active.now) }
     ensures triangles { IfOk result (λ mesh. mesh.triangles ≡ one_level_triangles active.now) }
 {
     let (width, height) = (columns_of(active), rows_of(active));
-    let vertices = level_vertices(alloc, tile, active, width, height)?;
+    let vertices = level_vertices(alloc, grid, active, width, height)?;
     let triangles = level_triangles(alloc, width, height)?;
     one_level_counts();
     box_holds();

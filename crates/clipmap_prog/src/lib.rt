@@ -15,9 +15,10 @@ mod reading;
 mod run;
 #[cfg(test)]
 mod tests;
+mod tile_files;
 mod top;
 
 pub use halt::Halt;
-pub use inputs::HGT_LIMIT;
 pub use program::{Ended, run_main, run_program};
+pub use tile_files::HGT_LIMIT;
 pub use top::clipmap;

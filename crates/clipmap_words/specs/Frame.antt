@@ -1,5 +1,5 @@
 -- The words of `frame`.
-use Rattle.std.specs.Prelude.{ℕ, ◌≤◌, ℤ, pos, neg_ℤ, ◌≤ℤ◌, Option, Some, None, List, ◌∷◌, ◌&&◌, if◌then◌else◌, option_and_then, map, string_bytes}
+use Rattle.std.specs.Prelude.{ℕ, ◌≤◌, ℤ, pos, neg_ℤ, ◌≤ℤ◌, Option, Some, None, List, ◌∷◌, ◌&&◌, if◌then◌else◌, option_and_then, length, map, string_bytes}
 use Rattle.clipmap_words.specs.Names.{is_name, is_inputs}
 use Rattle.clipmap_words.specs.Numbers.{natural_of, coordinate_of}
 use Rattle.clipmap_words.specs.declared.frame.FrameWords.{FrameWords}
@@ -13,7 +13,7 @@ pub record FrameView : Type 0 where
   pub out : List ℕ
   pub inputs : List (List ℕ)
 
--- the numbers of a `frame` are in range
+-- the numbers of a `frame` are in range, and it has no more than 64 inputs
 pub record IsFrameInRange (frame : FrameView) : Type 0 where
   pub k_low : 4 ≤ frame.k
   pub k_high : frame.k ≤ 8
@@ -23,6 +23,7 @@ pub record IsFrameInRange (frame : FrameView) : Type 0 where
   pub x_high : frame.x ≤ℤ pos 4194304
   pub y_low : neg_ℤ (pos 4194304) ≤ℤ frame.y
   pub y_high : frame.y ≤ℤ pos 4194304
+  pub few_inputs : length frame.inputs ≤ 64
 
 -- the names of a `frame` with these numbers, where they are names and inputs
 abbrev pub frame_with : ℕ → ℕ → ℤ → ℤ → List ℕ → List (List ℕ) → Option FrameView

@@ -178,6 +178,10 @@ square_is_tile terrain side heights low high sound wide tall whole =
       };
     }
 
+-- a tile has no more voids than the greatest square has samples
+pub few_of_side : (voids side : ℕ) → voids ≤ side * side → side ≤ 3601 → voids ≤ 12967201
+few_of_side voids side few high = grind arith
+
 -- what bytes of a side make, from their heights and the number of their voids
 pub tile_is : (place : Corner) (bytes : List ℕ) (side : ℕ) (heights : List ℤ) (voids : ℕ) → side_of_length (length bytes) ≡ Some side → heights ≡ (tile_terrain bytes side).table → voids ≡ void_count bytes side → tile_of_bytes place bytes ≡ Some (record { corner = place; terrain = record { width = side; height = side; table = heights }; voids = voids })
 unfolding tile_of_bytes tile_at tile_terrain

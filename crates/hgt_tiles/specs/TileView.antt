@@ -11,6 +11,10 @@ pub record TileView : Type 0 where
   pub terrain : Terrain
   pub voids : ℕ
 
+-- the most voids that a tile may have: all samples of the greatest square
+abbrev pub most_voids : ℕ
+most_voids = 12967201
+
 -- the tile that bytes of this side make at a corner
 unfoldable pub tile_at : Corner → List ℕ → ℕ → TileView
 tile_at place bytes side =
@@ -30,3 +34,8 @@ pub record IsTile (terrain : Terrain) : Type 0 where
   pub low : 3 ≤ terrain.width
   pub high : terrain.width ≤ 3601
   pub sound : IsTerrain terrain
+
+-- a tile that was read: its terrain is a tile's, and its voids are samples of it
+pub record IsRead (tile : TileView) : Type 0 where
+  pub square : IsTile tile.terrain
+  pub few_voids : tile.voids ≤ most_voids

@@ -39,18 +39,18 @@ pub struct HgtTile {
 }
 
 impl Model for HgtTile {
-    ghost use Rattle.hgt_tiles.specs.TileView.{TileView, IsTile};
+    ghost use Rattle.hgt_tiles.specs.TileView.{TileView, IsRead};
 
     ghost Value = { TileView };
 
     ghost view = { λ t. record { corner = t.corner; terrain = record { width = t.side; height = t.side; table = t.heights.items }; voids = t.voids } };
 
-    ghost invariant = { λ t. IsTile (record { width = t.side; height = t.side; table = t.heights.items }) };
+    ghost invariant = { λ t. IsRead (record { corner = t.corner; terrain = record { width = t.side; height = t.side; table = t.heights.items }; voids = t.voids }) };
 }
 
 impl HgtTile {
     ghost use Rattle.terrain_model.specs.Terrain.{height_at};
-    ghost use Rattle.hgt_tiles.specs.TileView.{IsTile};
+    ghost use Rattle.hgt_tiles.specs.TileView.{IsTile, most_voids};
 
     /// The south-west corner.
     pub fn corner(&self) -> Corner
@@ -67,9 +67,10 @@ impl HgtTile {
         self.side
     }
 
-    /// How many samples were voids in the file.
+    /// How many samples were voids in the file, at most all of the greatest tile's.
     pub fn voids(&self) -> u64
-        ensures { result ≡ self.now.voids }
+        ensures value { result ≡ self.now.voids }
+        ensures few { result ≤ most_voids }
     {
         self.voids
     }
@@ -147,6 +148,7 @@ fn read_samples(alloc: Global, bytes: &[u8], side: u32) -> Result<Samples, Alloc
     requires whole { length bytes.now ≡ 2 * (side * side) }
     ensures heights { IfOk result (λ s. s.heights.items ≡ (tile_terrain bytes.now side).table) }
     ensures voids { IfOk result (λ s. s.voids ≡ void_count bytes.now side) }
+    ensures few_voids { IfOk result (λ s. s.voids ≤ side * side) }
 {
     let side = side as usize;
     let mut heights = Vec::with_capacity(alloc, side * side)?;

@@ -15,7 +15,7 @@ level_mesh-requires-clause-few_rows c =
 
 pub returns-clause-text : goal.returns-clause-text
 returns-clause-text c =
-    let terrain = c.args.tile.now.terrain in
+    let terrain = c.args.grid.now in
     let active = c.window-active.result in
     let xe : to_z w32 (of_z w32 c.args.x) ≡ c.args.x = to_z-of_z w32 c.args.x c.ranges.x in
     let ye : to_z w32 (of_z w32 c.args.y) ≡ c.args.y = to_z-of_z w32 c.args.y c.ranges.y in
@@ -27,7 +27,7 @@ returns-clause-text c =
 
 pub returns-clause-line : goal.returns-clause-line
 returns-clause-line c =
-    let terrain = c.args.tile.now.terrain in
+    let terrain = c.args.grid.now in
     let active = c.window-active.result in
     let xe : to_z w32 (of_z w32 c.args.x) ≡ c.args.x = to_z-of_z w32 c.args.x c.ranges.x in
     let ye : to_z w32 (of_z w32 c.args.y) ≡ c.args.y = to_z-of_z w32 c.args.y c.ranges.y in

@@ -20,7 +20,7 @@ new-requires-clause-bounds c =
     ∙ ap (λ width. flat_map (one_level_strip width) (range_with_len 0 (c.rows_of-height.result - 1))) c.columns_of-width.ensures.value
     ∙ ap (λ height. flat_map (one_level_strip (columns c.args.active.now)) (range_with_len 0 (height - 1))) c.rows_of-height.ensures.value in
     let count : columns c.args.active.now * rows c.args.active.now ≡ length vertices =
-    sym (ap length c.in_ok-vertices.ensures.vertices ∙ c.one_level_counts.ensures.vertices c.args.tile.now.terrain c.args.active.now) in
+    sym (ap length c.in_ok-vertices.ensures.vertices ∙ c.one_level_counts.ensures.vertices c.args.grid.now c.args.active.now) in
     let Named : List (List ℕ) → Type 0 = λ ts. NameVertices (columns c.args.active.now * rows c.args.active.now) ts in
     let Counted : ℕ → Type 0 = λ n. NameVertices n triangles in
     let names : NameVertices (length vertices) triangles = subst Counted count (subst Named (sym same) (c.one_level_counts.ensures.names c.args.active.now)) in

@@ -11,6 +11,6 @@ overflow_add-z c = omega (arith, ints)
 
 pub returns : goal.returns
 returns c = record {
-  value = same_vertex c.args.tile.now.terrain c.args.region.now c.args.row c.args.column _ _ _ c.height.result
+  value = same_vertex c.args.grid.now c.args.region.now c.args.row c.args.column _ _ _ c.height.result
       (omega (arith, ints)) (omega (arith, ints)) c.height.ensures.value (omega (arith, ints, c.from.ensures));
 }

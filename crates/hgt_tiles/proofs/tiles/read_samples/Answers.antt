@@ -1,4 +1,4 @@
-use Rattle.std.proofs.Common.{◌≡◌, ◌*◌, ◌+◌, flat_map, count_by, ap, ◌∙◌, arith}
+use Rattle.std.proofs.Common.{◌≡◌, ℕ, ◌≤◌, ◌*◌, ◌+◌, subst, flat_map, count_by, ap, ◌∙◌, arith}
 use Rattle.std.specs.List.{range_with_len}
 use Rattle.terrain_model.specs.Voids.{is_void, without_voids}
 use Rattle.terrain_model.specs.Tile.{tile_row, tile_terrain, void_count}
@@ -27,3 +27,9 @@ unfolding void_count
 returns-clause-voids c =
     let whole : c.loop-v.v ≡ c.args.side = omega (arith, c.loop-v-test.false, c.loop-v.auto.v-end) in
     c.loop-v.invariant.voids ∙ ap (λ n. count_by is_void (flat_map (tile_row c.args.bytes.now c.args.side) (range_with_len 0 n))) whole
+
+pub returns-clause-few_voids : goal.returns-clause-few_voids
+returns-clause-few_voids c =
+    let whole : c.loop-v.v ≡ c.args.side = omega (arith, c.loop-v-test.false, c.loop-v.auto.v-end) in
+    let Few : ℕ → Type 0 = λ n. c.loop-v.voids ≤ n * c.args.side in
+    subst Few whole c.loop-v.invariant.few_voids
