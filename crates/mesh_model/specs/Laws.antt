@@ -112,10 +112,11 @@ NestedTriangleCount =
 -- the triangles of the mesh of a plan's active regions name its vertices
 abbrev pub DrawnNames : Type 0
 DrawnNames =
-    (terrain : Terrain) (k : ℕ) (filled : List Region) → AllEvenOrEmpty filled →
-    NameVertices (length (mesh terrain k (actives k filled)).vertices) (mesh terrain k (actives k filled)).triangles
+    (terrain : Terrain) (k finest : ℕ) (filled : List Region) → AllEvenOrEmpty filled →
+    NameVertices (length (mesh terrain k (actives k finest filled)).vertices) (mesh terrain k (actives k finest filled)).triangles
 
 -- no two vertices of the mesh of a plan's active regions stand at one position
 abbrev pub DrawnApart : Type 0
 DrawnApart =
-    (terrain : Terrain) (k : ℕ) (filled : List Region) → AllPairs StandApart (mesh_vertices terrain k (actives k filled))
+    (terrain : Terrain) (k finest : ℕ) (filled : List Region) →
+    AllPairs StandApart (mesh_vertices terrain k (actives k finest filled))
