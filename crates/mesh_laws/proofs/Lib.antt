@@ -5,3 +5,4 @@ pub mod Rows
 pub mod Listed
 pub mod Places
 pub mod Squares
+pub mod Runs

@@ -16,18 +16,18 @@ use Rattle.mesh_laws.proofs.Cells.{gap_is}
 use Rattle.mesh_laws.proofs.Rows.{map_of_map, flat_map_of_map, filter_of_flat_map, filter_keeps, filter_middle, before, at_row, HasShortRows, before_short}
 
 -- the cell in column u and row v of a region, counted from its north-west corner
-cell_in_row : Region → ℕ → ℕ → ℤ × ℤ
+unfoldable pub cell_in_row : Region → ℕ → ℕ → ℤ × ℤ
 cell_in_row active v u = (active.x0 +ℤ pos u, active.y0 +ℤ pos v)
 
 -- the cell is outside the hole
-is_out : Region → ℤ × ℤ → Bool
+unfoldable pub is_out : Region → ℤ × ℤ → Bool
 is_out gap cell = not (contains gap cell.0 cell.1)
 
 -- row v of the cells outside the hole
-row_out : Region → Region → ℕ → List (ℤ × ℤ)
+unfoldable pub row_out : Region → Region → ℕ → List (ℤ × ℤ)
 row_out gap active v = filter (is_out gap) (map (cell_in_row active v) (range_with_len 0 (columns active)))
 
-cells_are_rows : (finer active : Region) → cells_outside finer active ≡ flat_map (row_out (hole finer) active) (range_with_len 0 (rows active))
+pub cells_are_rows : (finer active : Region) → cells_outside finer active ≡ flat_map (row_out (hole finer) active) (range_with_len 0 (rows active))
 unfolding cells_outside row_out is_out cell_in_row
 cells_are_rows finer active =
     filter_of_flat_map (is_out (hole finer)) (λ j. map (λ i. (i, j)) (numbers_from active.x0 (columns active))) (numbers_from active.y0 (rows active))

@@ -1,10 +1,12 @@
 -- The rings of nested active regions, the finest first, and the places of their vertices in closed form.
-use Rattle.std.specs.Prelude.{ℕ, ◌+◌, ◌-◌, ◌*◌, min, ℤ, pos, ◌+ℤ◌, ◌*ℤ◌, int_lt, List, [], ◌∷◌, ◌++◌, flat_map, if◌then◌else◌}
+use Rattle.std.specs.Prelude.{ℕ, zero, suc, ◌+◌, ◌-◌, ◌*◌, min, not, ℤ, pos, ◌+ℤ◌, ◌*ℤ◌, int_lt, List, [], ◌∷◌, ◌++◌, map, filter, flat_map, if◌then◌else◌}
+use Rattle.std.specs.List.{range_with_len}
 use Rattle.std.specs.Int.{int_gap}
 use Rattle.clip_regions.specs.declared.region.Region.{Region}
 use Rattle.clip_regions.specs.Regions.{contains, is_empty, empty_region, columns, rows, area, cells}
 use Rattle.mesh_model.specs.declared.shapes.PartKind.{PartKind}
 use Rattle.mesh_model.specs.declared.shapes.PartKind.TheVariants.{Whole, North, West, East, South}
+use Rattle.mesh_model.specs.Height.{active_of}
 use Rattle.mesh_model.specs.Vertices.{hole}
 use Rattle.mesh_model.specs.Parts.{PartTriangles, squares_between}
 use Rattle.mesh_laws.specs.declared.ring.Ring.{Ring}
@@ -21,6 +23,19 @@ ring_size ring = area ring.active - area ring.hole
 unfoldable pub next_ring : Ring → Region → Ring
 next_ring finer active =
     record { active = active; hole = hole finer.active; first = finer.first + ring_size finer }
+
+-- the active region of the next finer level, and the empty one before the finest
+abbrev pub finer_of : List Region → ℕ → Region
+finer_of actives zero = empty_region
+finer_of actives (suc level) = active_of actives level
+
+-- n cells of row j, from column i on
+unfoldable pub run : ℤ → ℤ → ℕ → List (ℤ × ℤ)
+run i j n = map (λ u. (i +ℤ pos u, j)) (range_with_len 0 n)
+
+-- row j of the cells of an active region outside the hole
+unfoldable pub ring_row : Region → Region → ℤ → List (ℤ × ℤ)
+ring_row gap active j = filter (λ cell. not (contains gap cell.0 cell.1)) (run active.x0 j (columns active))
 
 -- how many rows of the hole end before the cell in column i and row j, row by row
 unfoldable pub passed_rows : Region → ℤ → ℤ → ℕ
