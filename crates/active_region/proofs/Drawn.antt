@@ -1,5 +1,5 @@
 -- Active regions: of a level, of a list of levels, and of twelve places.
-use Rattle.std.proofs.Common.{◌≡◌, ℕ, zero, suc, ◌+◌, ◌-◌, ◌^◌, ◌<◌, ◌≤◌, ◌⊎◌, true, List, [], ◌∷◌, ◌++◌, length, take, drop, replicate, get_or, refl, ap, sym, ◌∙◌, subst, inl, inr, append_assoc, take-append-drop, arith}
+use Rattle.std.proofs.Common.{◌≡◌, ℕ, zero, suc, ◌+◌, ◌-◌, ◌^◌, ◌<◌, ◌≤◌, true, List, [], ◌∷◌, ◌++◌, length, take, drop, replicate, get_or, refl, ap, sym, ◌∙◌, subst, inl, inr, append_assoc, take-append-drop, arith}
 use Rattle.std.specs.List.{All}
 use Rattle.std.proofs.lemmas.List.{drop_more, length-set, length-take-le, length-drop, take-append-le, take-replicate, drop-replicate, drop-set, take-set}
 use Rattle.std.proofs.Math.Seq.{take-append_seam, drop-length}

@@ -1,8 +1,8 @@
 -- What is true of the active regions of filled ones.
-use Rattle.std.proofs.Common.{◌≡◌, ℕ, zero, suc, ◌+◌, ◌-◌, ◌^◌, ◌<◌, ◌≤◌, ◌⊎◌, true, false, pos, neg_ℤ, ◌≤ℤ◌, List, [], ◌∷◌, ◌++◌, length, take, drop, replicate, get_or, map, refl, ap, sym, ◌∙◌, subst, inl, inr, arith}
+use Rattle.std.proofs.Common.{◌≡◌, ℕ, zero, suc, ◌-◌, ◌^◌, ◌<◌, ◌⊎◌, true, pos, List, [], ◌∷◌, ◌++◌, length, take, drop, replicate, get_or, map, refl, ap, sym, ◌∙◌, subst, inl, inr, arith}
 use Rattle.std.specs.List.{All}
 use Rattle.std.proofs.lemmas.Int.{ints}
-use Rattle.std.proofs.lemmas.Bool.{cases_Bool, true≢false}
+use Rattle.std.proofs.lemmas.Bool.{cases_Bool}
 use Rattle.std.proofs.lemmas.List.Elements.{All-from_get_or}
 use Rattle.std.proofs.lemmas.List.{get_or-map, length-map}
 use Rattle.std.proofs.Math.Seq.{take-append_seam, drop-append_seam}
@@ -15,7 +15,7 @@ use Rattle.plan_model.specs.Laws.{IsEvenOrEmpty, AllEvenOrEmpty, NestedActives}
 use Rattle.plan_model.specs.Sound.{IsPartOf, IsShown}
 use Rattle.plan_laws.specs.Drawn.{ActivesAreAsMany, AreShown, ActivesAreShown}
 use Rattle.plan_sound.specs.Laws.{WindowsAreNear}
-use Rattle.active_region.specs.Active.{AreFilled, IsNearOrEmpty, AreDrawn, AreActive, IsTwelve}
+use Rattle.active_region.specs.Active.{AreFilled, IsNearOrEmpty, AreDrawn}
 use Rattle.active_region.proofs.Regions.{empty_is_empty, spelled_empty, spelled_other, part_within}
 use Rattle.active_region.proofs.Drawn.{active_of_none, actives_wide}
 

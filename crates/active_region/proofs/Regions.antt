@@ -1,7 +1,7 @@
 -- Regions: their one spelling of no cell, where they lie, and what can be drawn of them.
-use Rattle.std.proofs.Common.{◌≡◌, ℕ, ◌≤◌, true, false, ◌||◌, ℤ, pos, ◌+ℤ◌, ◌-ℤ◌, ◌≤ℤ◌, refl, ap, sym, ◌∙◌, subst, inl, inr, arith}
+use Rattle.std.proofs.Common.{◌≡◌, ℕ, ◌≤◌, true, false, ◌||◌, ℤ, pos, ◌+ℤ◌, ◌-ℤ◌, ◌≤ℤ◌, refl, sym, ◌∙◌, subst, inl, inr, arith}
 use Rattle.std.proofs.lemmas.Int.{ints, clamps}
-use Rattle.std.proofs.lemmas.Bool.{cond_both, cases_Bool, or_parts, or_from, true≢false}
+use Rattle.std.proofs.lemmas.Bool.{cond_both, or_parts, or_from, true≢false}
 use Rattle.std.specs.Int.{int_min, int_max}
 use lib.Signed.{lt_z}
 use Rattle.clip_regions.specs.declared.region.Region.{Region}

@@ -1,5 +1,5 @@
 -- What is filled of the levels, and what is true of the regions that are drawn of them, the finest level first.
-use Rattle.std.specs.Prelude.{◌≡◌, ℕ, ◌-◌, ◌^◌, ◌<◌, ◌≤◌, true, ◌⊎◌, pos, ◌-ℤ◌, ◌≤ℤ◌, List, length, take, drop, replicate, All, slice_index_or, ◌++◌}
+use Rattle.std.specs.Prelude.{◌≡◌, ℕ, ◌-◌, ◌^◌, ◌<◌, true, ◌⊎◌, pos, ◌-ℤ◌, ◌≤ℤ◌, List, length, take, drop, replicate, All, slice_index_or, ◌++◌}
 use Rattle.std.proofs.Common.{ap, sym, ◌∙◌, take-append-drop}
 use Rattle.clip_regions.specs.declared.region.Region.{Region}
 use Rattle.clip_regions.specs.Regions.{is_empty, empty_region, IsWithin}

@@ -10,3 +10,6 @@ mod list;
 
 pub use drawing::actives;
 pub use list::Actives;
+
+#[cfg(test)]
+mod tests;

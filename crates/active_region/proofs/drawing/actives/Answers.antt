@@ -1,8 +1,7 @@
 -- What is true of active regions, handed to the list that keeps them.
-use Rattle.std.proofs.Common.{◌≡◌, ◌-◌, ◌++◌, length, take, replicate, ap, sym, ◌∙◌, subst}
-use Rattle.plan_model.specs.Limits.{IsSize}
+use Rattle.std.proofs.Common.{◌≡◌, length, take, ap, sym, ◌∙◌, subst}
 use Rattle.plan_model.specs.Actives.{actives}
-use Rattle.active_region.specs.Active.{AreActive, AreDrawn}
+use Rattle.active_region.specs.Active.{AreDrawn}
 use Rattle.active_region.proofs.Kept.{all_filled_near, actives_are_drawn, first_of_twelve, rest_of_twelve}
 use Rattle.active_region.proofs.drawing.actives.Goals as goal
 

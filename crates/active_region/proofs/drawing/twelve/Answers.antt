@@ -3,7 +3,7 @@ use Rattle.std.proofs.Common.{◌≡◌, ℕ, ◌+◌, ◌-◌, ◌^◌, ◌<◌
 use Rattle.std.proofs.lemmas.List.Elements.{All-same, All-drop}
 use Rattle.std.proofs.Math.ListN.{set}
 use Rattle.clip_regions.specs.declared.region.Region.{Region}
-use Rattle.clip_regions.specs.Regions.{empty_region, IsWithin}
+use Rattle.clip_regions.specs.Regions.{IsWithin}
 use Rattle.plan_model.specs.Actives.{actives_by, active_of}
 use Rattle.plan_model.specs.Window.{margin}
 use Rattle.active_region.specs.Active.{IsNearOrEmpty}
