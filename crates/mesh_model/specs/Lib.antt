@@ -2,6 +2,7 @@ pub mod Height
 pub mod Vertices
 pub mod Parts
 pub mod Mesh
+pub mod Rings
 pub mod Conditions
 pub mod Text
 pub mod Seen

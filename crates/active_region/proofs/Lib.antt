@@ -1,0 +1,4 @@
+pub mod Regions
+pub mod Drawn
+pub mod Kept
+pub mod Samples

@@ -1,0 +1,4 @@
+pub mod Rings
+pub mod Active
+pub mod Conditions
+pub mod Laws

@@ -1,0 +1,54 @@
+//! Laws over the definitions alone: each function's contract is the law.
+
+ghost use Rattle.mesh_laws.specs.Laws.{RingParts, RingRows, WholeRow, CutRow, HoleCells, FirstRing, NextLinked, NextRing, RingSize, ActivesReach, LowerEnds, UpperEnds, UnstitchedNames, FewVertices, FewTriangles, FewRingTriangles};
+
+use mesh_model::{nested_counts, nested_names, vertices_apart};
+
+/// The triangles of nested active regions, by places in closed form.
+pub fn ring_parts_are_square_parts()
+    ensures { RingParts }
+{
+    vertices_apart();
+}
+
+/// The cells that a ring lists, row by row: a row is whole, or what lies west and east of the hole.
+pub fn rings_have_rows()
+    ensures rows { RingRows }
+    ensures whole { WholeRow }
+    ensures cut { CutRow }
+{}
+
+/// A cell of a hole stands at a cell of the finer region.
+pub fn holes_have_finer_cells()
+    ensures { HoleCells }
+{}
+
+/// The rings of a frame's active regions come one after another, the finest first.
+pub fn rings_are_linked()
+    ensures first { FirstRing }
+    ensures linked { NextLinked }
+    ensures next { NextRing }
+    ensures size { RingSize }
+{}
+
+/// The cells of active regions lie within 2^23 samples of the mosaic's corner.
+pub fn actives_are_in_reach()
+    ensures { ActivesReach }
+{}
+
+/// The two coarser cells between which a cell of an active region lies are cells of the coarser one.
+pub fn ends_are_active()
+    ensures lower { LowerEnds }
+    ensures upper { UpperEnds }
+{}
+
+/// The mesh of a frame without its stitches names vertices, and no mesh of a frame has 2^31 of anything.
+pub fn meshes_are_small()
+    ensures names { UnstitchedNames }
+    ensures vertices { FewVertices }
+    ensures triangles { FewTriangles }
+    ensures ring_triangles { FewRingTriangles }
+{
+    nested_names();
+    nested_counts();
+}

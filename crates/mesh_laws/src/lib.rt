@@ -1,0 +1,14 @@
+//! Laws of the mesh of nested active regions, for fast code: where each vertex stands in the list, in
+//! closed form, and what triangles this gives.
+//!
+//! The definitions of `specs/` are cited by the contracts of the crates that make meshes. This crate has
+//! the plain type that they speak of, and laws over the definitions alone.
+#![tactic(auto)]
+
+mod laws;
+mod ring;
+
+pub use laws::{
+    actives_are_in_reach, ends_are_active, holes_have_finer_cells, meshes_are_small, ring_parts_are_square_parts, rings_are_linked, rings_have_rows,
+};
+pub use ring::Ring;
