@@ -14,7 +14,7 @@ use Rattle.mesh_model.specs.Rings.{unstitched}
 use Rattle.mesh_model.specs.Conditions.{NameVertices}
 use Rattle.mesh_laws.specs.declared.ring.Ring.{Ring}
 use Rattle.mesh_laws.specs.Rings.{no_ring, next_ring, ring_size, ring_row, run, ring_parts_from}
-use Rattle.mesh_laws.specs.Active.{AreActive}
+use Rattle.active_region.specs.Active.{AreActive}
 use Rattle.mesh_laws.specs.Conditions.{HasHole, IsRing, AreLinked, IsBefore}
 
 -- the square parts of nested regions, by places in closed form
