@@ -21,7 +21,7 @@ use Rattle.mesh_model.specs.Vertices.{hole}
 use Rattle.active_region.specs.Active.{AreActive}
 use Rattle.mesh_laws.specs.declared.ring.Ring.{Ring}
 use Rattle.mesh_laws.specs.Rings.{no_ring, next_ring, ring_size, finer_of}
-use Rattle.mesh_laws.specs.Conditions.{IsCut, HasHole, IsSmall, IsRing, AreLinked, IsBefore}
+use Rattle.mesh_laws.specs.Conditions.{IsCell, IsCut, HasHole, IsSmall, IsRing, AreLinked, IsBefore}
 use Rattle.mesh_laws.proofs.Rectangles.{Lies, lies, lying, HasCell, has_cell, cell_in, Within, IsInner, hole_within, hole_is, hole_or_none, empty_is_empty, none_in, even_if_cell, half_order, half_and_rest, rem_below, halved, halved_has_cell}
 use Rattle.mesh_laws.proofs.Cells.{gap_is}
 
@@ -162,4 +162,46 @@ first_before actives = record {
   own = record { small = empty_small; cut = inl refl; few = omega arith };
   region = refl;
   few = omega arith;
+}
+
+-- ---- cells
+pub contained : (r : Region) (i j : ℤ) → IsCell r i j → contains r i j ≡ true
+contained r i j h = lying r i j (record { west = h.west; east = h.east; north = h.north; south = h.south })
+
+smaller_near : (active gap : Region) → IsWithin (2 ^ 24) active → IsCut active gap → IsWithin (2 ^ 24) gap
+smaller_near active gap near cut =
+    let w = cut.west in
+    let a = cut.across in
+    let e = cut.east in
+    let n = cut.north in
+    let l = cut.along in
+    let s = cut.south in
+    let xl = near.x0_low in
+    let xh = near.x1_high in
+    let yl = near.y0_low in
+    let yh = near.y1_high in
+    record {
+      x0_low = omega (arith, ints, xl, w);
+      x0_high = omega (arith, ints, xh, a, e);
+      y0_low = omega (arith, ints, yl, n);
+      y0_high = omega (arith, ints, yh, l, s);
+      x1_low = omega (arith, ints, xl, w, a);
+      x1_high = omega (arith, ints, xh, e);
+      y1_low = omega (arith, ints, yl, n, l);
+      y1_high = omega (arith, ints, yh, s);
+    }
+
+smaller : (a b c d : ℤ) → a ≤ℤ c → d ≤ℤ b → int_gap a (b +ℤ pos 1) ≤ 255 → int_gap c (d +ℤ pos 1) ≤ 255
+smaller a b c d low high few =
+    let g = gap_is a (b +ℤ pos 1) in
+    let h = gap_is c (d +ℤ pos 1) in
+    omega (arith, ints, low, high, few, g, h)
+
+pub hole_small : (active gap : Region) → IsSmall active → HasHole active gap → IsSmall gap
+unfolding columns rows
+hole_small active gap small (inl none) = subst IsSmall (sym none) empty_small
+hole_small active gap small (inr cut) = record {
+  near = smaller_near active gap small.near cut;
+  few_columns = smaller active.x0 active.x1 gap.x0 gap.x1 cut.west cut.east small.few_columns;
+  few_rows = smaller active.y0 active.y1 gap.y0 gap.y1 cut.north cut.south small.few_rows;
 }
