@@ -6,3 +6,7 @@ pub mod Listed
 pub mod Places
 pub mod Squares
 pub mod Runs
+pub mod Sizes
+pub mod Ends
+pub mod Few
+pub mod Reaches

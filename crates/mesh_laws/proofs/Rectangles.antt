@@ -112,7 +112,7 @@ within a b e some =
     record { west = tested_le a.x0 b.x0 across.0; east = tested_le b.x1 a.x1 across.1; north = tested_le a.y0 b.y0 along.0; south = tested_le b.y1 a.y1 along.1 }
 
 -- ---- halves
-rem_below : (z : ℤ) → floor_rem z 2 < 2
+pub rem_below : (z : ℤ) → floor_rem z 2 < 2
 unfolding floor_rem
 rem_below (pos n) = omega arith
 rem_below (negsuc n) = omega arith
@@ -130,7 +130,7 @@ halve_is : (r : Region) → halve r ≡ spelled (halved r)
 unfolding halve
 halve_is r = refl
 
-half_order : (a b : ℤ) → a ≤ℤ b → floor_div a 2 ≤ℤ floor_div b 2
+pub half_order : (a b : ℤ) → a ≤ℤ b → floor_div a 2 ≤ℤ floor_div b 2
 half_order a b h =
     let ra : floor_rem a 2 < 2 = rem_below a in
     let rb : floor_rem b 2 < 2 = rem_below b in
@@ -165,7 +165,7 @@ hole_of_empty : (finer : Region) → is_empty finer ≡ true → hole finer ≡ 
 unfolding hole
 hole_of_empty finer e = rw e refl
 
-halved_has_cell : (r : Region) → HasCell r → HasCell (halved r)
+pub halved_has_cell : (r : Region) → HasCell r → HasCell (halved r)
 halved_has_cell r some = record { across = half_order r.x0 r.x1 some.across; along = half_order r.y0 r.y1 some.along }
 
 -- the hole of a region that has a cell is the region with each corner halved

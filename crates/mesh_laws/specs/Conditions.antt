@@ -1,11 +1,18 @@
 -- What is true of the rings of a frame's active regions.
-use Rattle.std.specs.Prelude.{◌≡◌, ℕ, ◌*◌, ◌^◌, ◌≤◌, ◌⊎◌, ◌≤ℤ◌, List}
+use Rattle.std.specs.Prelude.{◌≡◌, ℕ, ◌*◌, ◌^◌, ◌≤◌, ◌⊎◌, ℤ, ◌≤ℤ◌, List}
 use Rattle.clip_regions.specs.declared.region.Region.{Region}
 use Rattle.clip_regions.specs.Regions.{empty_region, columns, rows, IsWithin}
 use Rattle.plan_model.specs.Laws.{IsEvenOrEmpty}
 use Rattle.mesh_model.specs.Vertices.{hole}
 use Rattle.mesh_laws.specs.declared.ring.Ring.{Ring}
 use Rattle.mesh_laws.specs.Rings.{finer_of}
+
+-- the cell in column i and row j lies in the region
+pub record IsCell (r : Region) (i j : ℤ) : Type 0 where
+  pub west : r.x0 ≤ℤ i
+  pub east : i ≤ℤ r.x1
+  pub north : r.y0 ≤ℤ j
+  pub south : j ≤ℤ r.y1
 
 -- the hole has a cell and lies in the active region
 pub record IsCut (active gap : Region) : Type 0 where

@@ -14,8 +14,8 @@ use Rattle.mesh_model.specs.Rings.{unstitched}
 use Rattle.mesh_model.specs.Conditions.{NameVertices}
 use Rattle.mesh_laws.specs.declared.ring.Ring.{Ring}
 use Rattle.mesh_laws.specs.Rings.{no_ring, next_ring, ring_size, ring_row, run, ring_parts_from}
-use Rattle.mesh_laws.specs.Active.{AreActive}
-use Rattle.mesh_laws.specs.Conditions.{HasHole, IsRing, AreLinked, IsBefore}
+use Rattle.active_region.specs.Active.{AreActive}
+use Rattle.mesh_laws.specs.Conditions.{IsCell, IsSmall, HasHole, IsRing, AreLinked, IsBefore}
 
 -- the square parts of nested regions, by places in closed form
 abbrev pub RingParts : Type 0
@@ -45,7 +45,15 @@ CutRow =
 abbrev pub HoleCells : Type 0
 HoleCells =
     (finer : Region) (i j : ℤ) → IsEvenOrEmpty finer → contains (hole finer) i j ≡ true →
-    contains finer (pos 2 *ℤ i) (pos 2 *ℤ j) ≡ true
+    IsCell finer (pos 2 *ℤ i) (pos 2 *ℤ j)
+
+-- a cell that lies in a region is contained in it
+abbrev pub CellsAreContained : Type 0
+CellsAreContained = (r : Region) (i j : ℤ) → IsCell r i j → contains r i j ≡ true
+
+-- the hole of a small region is small
+abbrev pub HolesAreSmall : Type 0
+HolesAreSmall = (active gap : Region) → IsSmall active → HasHole active gap → IsSmall gap
 
 -- nothing stands before the finest level
 abbrev pub FirstRing : Type 0
@@ -75,12 +83,12 @@ ActivesReach =
 abbrev pub LowerEnds : Type 0
 LowerEnds =
     (actives : List Region) (level : ℕ) (i j : ℤ) → AreActive actives → level + 1 < length actives →
-    contains (active_of actives level) i j ≡ true → contains (active_of actives (level + 1)) (lower_end i) (lower_end j) ≡ true
+    IsCell (active_of actives level) i j → contains (active_of actives (level + 1)) (lower_end i) (lower_end j) ≡ true
 
 abbrev pub UpperEnds : Type 0
 UpperEnds =
     (actives : List Region) (level : ℕ) (i j : ℤ) → AreActive actives → level + 1 < length actives →
-    contains (active_of actives level) i j ≡ true → contains (active_of actives (level + 1)) (upper_end i) (upper_end j) ≡ true
+    IsCell (active_of actives level) i j → contains (active_of actives (level + 1)) (upper_end i) (upper_end j) ≡ true
 
 -- the triangles of the mesh without its stitches name its vertices
 abbrev pub UnstitchedNames : Type 0

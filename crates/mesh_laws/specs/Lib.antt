@@ -1,4 +1,3 @@
 pub mod Rings
-pub mod Active
 pub mod Conditions
 pub mod Laws

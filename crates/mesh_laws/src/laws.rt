@@ -1,6 +1,6 @@
 //! Laws over the definitions alone: each function's contract is the law.
 
-ghost use Rattle.mesh_laws.specs.Laws.{RingParts, RingRows, WholeRow, CutRow, HoleCells, FirstRing, NextLinked, NextRing, RingSize, ActivesReach, LowerEnds, UpperEnds, UnstitchedNames, FewVertices, FewTriangles, FewRingTriangles};
+ghost use Rattle.mesh_laws.specs.Laws.{RingParts, RingRows, WholeRow, CutRow, HoleCells, CellsAreContained, HolesAreSmall, FirstRing, NextLinked, NextRing, RingSize, ActivesReach, LowerEnds, UpperEnds, UnstitchedNames, FewVertices, FewTriangles, FewRingTriangles};
 
 use mesh_model::{nested_counts, nested_names, vertices_apart};
 
@@ -18,9 +18,11 @@ pub fn rings_have_rows()
     ensures cut { CutRow }
 {}
 
-/// A cell of a hole stands at a cell of the finer region.
-pub fn holes_have_finer_cells()
-    ensures { HoleCells }
+/// Cells of regions and of holes, which are cells of the finer region, and how large a hole is.
+pub fn holes_are_in_regions()
+    ensures finer { HoleCells }
+    ensures contained { CellsAreContained }
+    ensures small { HolesAreSmall }
 {}
 
 /// The rings of a frame's active regions come one after another, the finest first.

@@ -1,0 +1,8 @@
+use Rattle.std.proofs.Common.{◌≡◌, ◌++◌, pos, ◌+ℤ◌}
+use Rattle.std.specs.List.{flat_map, range_with_len}
+use Rattle.mesh_laws.specs.Rings.{ring_square}
+use Rattle.ring_mesh.proofs.squares.add_row.Given as goal
+
+abbrev pub invariant-loop-u : goal.invariant-loop-u
+invariant-loop-u l =
+    l.triangles.items ≡ l.fn.triangles.items ++ flat_map (λ u. ring_square l.finer l.ring (l.squares.x0 +ℤ pos u) (l.squares.y0 +ℤ pos l.v)) (range_with_len 0 l.u)
