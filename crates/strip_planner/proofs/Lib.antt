@@ -1,0 +1,11 @@
+pub mod Numbers
+pub mod Shapes
+pub mod Cases
+pub mod Rows
+pub mod Walks
+pub mod Rings
+pub mod Masks
+pub mod Sides
+pub mod Counted
+pub mod MetTiles
+pub mod PlannedRegions

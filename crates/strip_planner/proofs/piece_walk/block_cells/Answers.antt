@@ -1,0 +1,10 @@
+use Rattle.std.proofs.Common.{arith}
+use Rattle.std.proofs.lemmas.Int.{ints}
+use Rattle.plan_model.specs.Blocks.{block_cells}
+use Rattle.strip_planner.proofs.Shapes.{same_corners}
+use Rattle.strip_planner.proofs.piece_walk.block_cells.Goals as goal
+
+pub returns-clause-value : goal.returns-clause-value
+unfolding block_cells
+returns-clause-value c =
+    same_corners _ (block_cells c.args.bx c.args.by) (omega (arith, ints)) (omega (arith, ints)) (omega (arith, ints)) (omega (arith, ints))

@@ -1,0 +1,13 @@
+use Rattle.std.proofs.Common.{ap, ◌∙◌}
+use mathlib.Core.Path.{ap₂}
+use Rattle.clip_regions.specs.Regions.{meet}
+use Rattle.plan_model.specs.Blocks.{block_cells}
+use Rattle.plan_model.specs.Strips.{piece_in}
+use Rattle.strip_planner.proofs.Numbers.{read_back}
+use Rattle.strip_planner.proofs.Shapes.{same_pieces}
+use Rattle.strip_planner.proofs.piece_walk.piece_in.Goals as goal
+
+pub returns : goal.returns
+unfolding piece_in
+returns c =
+    same_pieces _ (piece_in c.args.region c.args.bx c.args.by) (read_back c.args.bx c.ranges.bx) (read_back c.args.by c.ranges.by) (c.meet.ensures.value ∙ ap (meet c.args.region) (c.block_cells.ensures.value ∙ ap₂ block_cells (read_back c.args.bx c.ranges.bx) (read_back c.args.by c.ranges.by)))

@@ -1,0 +1,4 @@
+pub mod Spans
+pub mod Planned
+pub mod Left
+pub mod Met
