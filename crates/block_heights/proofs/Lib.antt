@@ -1,0 +1,3 @@
+pub mod CodedRows
+pub mod Cells
+pub mod Codings
