@@ -10,3 +10,4 @@ mod pieces;
 
 pub use block::{Block, Kind, PieceFault};
 pub use codes::is_coded;
+pub use pieces::piece_heights;

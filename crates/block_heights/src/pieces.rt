@@ -1,6 +1,6 @@
 //! The heights of a piece's cells, row by row.
 
-ghost use Rattle.std.specs.Prelude.{◌≡◌, ◌↔◌, ◌≤◌, ◌<◌, ◌+◌, ◌*◌, ◌-◌, ◌/◌, ◌%◌, ◌^◌, ℕ, true, false, List, [], length, pos, neg_ℤ, ◌+ℤ◌, ◌≤ℤ◌, IsTrue, IfOk, IfErr, OnOk, slice_index_or};
+ghost use Rattle.std.specs.Prelude.{◌≡◌, ◌↔◌, ◌≤◌, ◌<◌, ◌+◌, ◌*◌, ◌-◌, ◌/◌, ◌%◌, ◌^◌, ℕ, true, false, List, [], length, pos, neg_ℤ, ◌+ℤ◌, ◌≤ℤ◌, IsTrue, IfOk, IfErr, IfSome, IfNone, OnOk, slice_index_or};
 ghost use Rattle.clip_regions.specs.Regions.{columns, rows, contains, IsPlaced};
 ghost use Rattle.terrain_model.specs.Tile.{raw_sample};
 ghost use Rattle.four_point.specs.Patches.{patch_height, IsOfBlock};
@@ -8,11 +8,18 @@ ghost use Rattle.four_point.specs.Steps.{IsStep, IsNear, value_of};
 ghost use Rattle.block_heights.specs.Rows.{table_code, HasCodes};
 ghost use Rattle.block_heights.specs.Pieces.{IsSmall, Lies, IsInPatch, within, column_of, row_of, IsPieceUpTo, plain_height, coded_height, AreNearUpTo, HasOut, IsOutCell};
 
-use crate::block::PieceFault;
-use crate::codes::Sides;
+ghost use Rattle.clip_regions.specs.Regions.{area};
+ghost use Rattle.rice_residuals.specs.Faults.{HasFault};
+ghost use Rattle.store_model.specs.Blocks.{code_count};
+ghost use Rattle.store_model.specs.Faults.{HasPlainFault};
+ghost use Rattle.block_heights.specs.Decoded.{IsPart, IsNearZero, HasKind, HasHeights, HasPieceFault, HasCodedHeights, HasWordFault, HasPlainPieceFault};
+
+use crate::block::{Block, Kind, PieceFault};
+use crate::codes::{Sides, code_table, count_of};
 use byteorder::{BigEndian, ByteOrder};
 use clip_regions::Region;
 use four_point::{Patch, bring, value_by};
+use rice_residuals::{BlockFault, read_block};
 
 /// How many columns and rows a region has.
 #[tactic(auto, unfolding(clip_regions::specs::Regions::columns, clip_regions::specs::Regions::rows))]
@@ -186,5 +193,104 @@ fn fill_plain(bytes: &[u8], inside: Region, cells: Region, out: &mut [i16])
 {
     for k in 0..out.len() {
         out[k] = plain_at(bytes, inside, cell_at(cells, k));
+    }
+}
+
+/// The heights of a piece of a block of codes.
+fn word_piece(bytes: &[u8], inside: Region, step: u8, patch: &Patch, cells: Region, out: &mut [i16]) -> Result<(), PieceFault>
+    requires bytes { length bytes.now < 65536 }
+    requires inside { IsSmall inside }
+    requires patch { IsInPatch patch.now inside }
+    requires step { IsStep step }
+    requires cells { 0 < length out.old → IsSmall cells }
+    requires places { length out.old ≡ columns cells * rows cells }
+    ensures heights { OnOk result (HasCodedHeights (patch_height patch.now) step inside cells bytes.now out.new) }
+    ensures fault { IfErr result (HasWordFault (patch_height patch.now) step inside cells bytes.now (length out.old)) }
+{
+    let sides = sides_of(inside);
+    let codes = match read_block(bytes, count_of(inside, sides)) {
+        Ok(codes) => codes,
+        Err(fault) => return Err(PieceFault::BadBlock { fault }),
+    };
+    let table = code_table(codes.used(), inside, sides);
+    if out.is_empty() {
+        return Ok(());
+    }
+    let codes = Codes {
+        patch,
+        table: &table,
+        inside,
+        step,
+    };
+    fill_coded(codes, cells, out)
+}
+
+/// The fault of the bytes of a plain block of so many cells, if they have one.
+fn plain_fault(bytes: &[u8], cells: usize) -> Option<BlockFault>
+    requires bytes { length bytes.now < 65536 }
+    requires cells { cells ≤ 64 }
+    ensures whole { IfNone result (length bytes.now ≡ 2 * cells) }
+    ensures fault { IfSome result (HasPlainFault cells bytes.now) }
+{
+    let length = bytes.len() as u32;
+    let whole = 2 * cells as u32;
+    if length < whole {
+        return Some(BlockFault::CutShort { bit: 8 * length });
+    }
+    if length > whole {
+        return Some(BlockFault::Excess {
+            bytes: length - whole,
+        });
+    }
+    None
+}
+
+/// The heights of a piece of a plain block.
+fn plain_piece(bytes: &[u8], inside: Region, cells: Region, out: &mut [i16]) -> Result<(), PieceFault>
+    requires bytes { length bytes.now < 65536 }
+    requires inside { IsSmall inside }
+    requires cells { 0 < length out.old → IsSmall cells }
+    requires places { length out.old ≡ columns cells * rows cells }
+    ensures whole { OnOk result (length bytes.now ≡ 2 * area inside) }
+    ensures heights { OnOk result (IsPieceUpTo (length out.new) (within inside (plain_height bytes.now inside)) cells out.new) }
+    ensures fault { IfErr result (λ fault. HasPlainPieceFault (area inside) bytes.now fault) }
+{
+    let sides = sides_of(inside);
+    if let Some(fault) = plain_fault(bytes, sides.columns * sides.rows) {
+        return Err(PieceFault::BadBlock { fault });
+    }
+    if !out.is_empty() {
+        fill_plain(bytes, inside, cells, out);
+    }
+    Ok(())
+}
+
+/// Writes a 0 for each cell.
+fn fill_zeros(out: &mut [i16], cells: Region)
+    ensures { IsPieceUpTo (length out.new) (λ i j. pos 0) cells out.new }
+{
+    for height in out.iter_mut() {
+        *height = 0;
+    }
+}
+
+/// The heights of some cells of a block, row by row from the north and each row from the west, in metres; 0 outside the
+/// terrain. `patch` is the block's patch of coarser heights. After a refusal nothing is said of `out`. No memory is taken.
+pub fn piece_heights(block: &Block<'_>, patch: &Patch, cells: Region, out: &mut [i16]) -> Result<(), PieceFault>
+    requires placed { IsNearZero block.now.bx block.now.by }
+    requires kind { HasKind block.now.kind block.now.bx block.now.by block.now.inside patch.now }
+    requires step { IsStep block.now.step }
+    requires cells { IsPart block.now.bx block.now.by cells }
+    requires places { length out.old ≡ area cells }
+    ensures heights { OnOk result (HasHeights block.now.kind patch.now block.now.step block.now.inside cells out.new) }
+    ensures fault { IfErr result (HasPieceFault block.now.kind patch.now block.now.step block.now.inside cells (length out.old)) }
+{
+    match block.kind {
+        Kind::Outside => {
+            fill_zeros(out, cells);
+            Ok(())
+        }
+        Kind::Plain(bytes) => plain_piece(bytes, block.inside, cells, out),
+        Kind::Words(bytes) => word_piece(bytes, block.inside, block.step, patch, cells, out),
     }
 }

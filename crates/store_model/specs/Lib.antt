@@ -4,3 +4,4 @@ pub mod Format
 pub mod Store
 pub mod Restored
 pub mod Faults
+pub mod Laws

@@ -5,5 +5,6 @@
 #![tactic(auto)]
 
 mod fault;
+pub mod laws;
 
 pub use fault::{Field, StoreFault};
