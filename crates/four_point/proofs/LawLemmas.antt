@@ -48,7 +48,7 @@ square_size coarser short a b =
     weighted_size 655360 (row_sum coarser a (b -ℤ pos 1)) (row_sum coarser a b) (row_sum coarser a (b +ℤ pos 1)) (row_sum coarser a (b +ℤ pos 2))
     (row_size coarser short a (b -ℤ pos 1)) (row_size coarser short a b) (row_size coarser short a (b +ℤ pos 1)) (row_size coarser short a (b +ℤ pos 2))
 
-predicted_size : (coarser : ℤ → ℤ → ℤ) → ((a b : ℤ) → FitsSigned w16 (coarser a b)) → (column row : ℕ) (a b : ℤ) → IsAtMost 51200 (predicted coarser column row a b)
+pub predicted_size : (coarser : ℤ → ℤ → ℤ) → ((a b : ℤ) → FitsSigned w16 (coarser a b)) → (column row : ℕ) (a b : ℤ) → IsAtMost 51200 (predicted coarser column row a b)
 unfolding predicted
 predicted_size coarser short zero zero a b =
     let size : IsAtMost 32768 (coarser a b) = short_size (coarser a b) (short a b) in
@@ -56,6 +56,10 @@ predicted_size coarser short zero zero a b =
 predicted_size coarser short (suc odd) zero a b = sixteenth_size (row_sum coarser a b) (row_size coarser short a b)
 predicted_size coarser short zero (suc odd) a b = sixteenth_size (column_sum coarser a b) (column_size coarser short a b)
 predicted_size coarser short (suc odd) (suc odd') a b = part_size (square_sum coarser a b) (square_size coarser short a b)
+
+pub prediction_size : (coarser : ℤ → ℤ → ℤ) (i j : ℤ) → ((a b : ℤ) → FitsSigned w16 (coarser a b)) → IsAtMost 51200 (prediction coarser i j)
+unfolding prediction
+prediction_size coarser i j short = predicted_size coarser short (floor_rem i 2) (floor_rem j 2) (floor_div i 2) (floor_div j 2)
 
 pub residual_size : (coarser : ℤ → ℤ → ℤ) (i j height : ℤ) → ((a b : ℤ) → FitsSigned w16 (coarser a b)) → FitsSigned w16 height → unsigned_abs (height -ℤ prediction coarser i j) < 2 ^ 17
 unfolding prediction
@@ -77,7 +81,7 @@ unfolding floor_div
 even_div (pos n) = ap pos (omega arith)
 even_div (negsuc n) = rw (doubled n) (ap negsuc (omega arith))
 
-even_prediction : (coarser : ℤ → ℤ → ℤ) (a b : ℤ) → prediction coarser (pos 2 *ℤ a) (pos 2 *ℤ b) ≡ coarser a b
+pub even_prediction : (coarser : ℤ → ℤ → ℤ) (a b : ℤ) → prediction coarser (pos 2 *ℤ a) (pos 2 *ℤ b) ≡ coarser a b
 unfolding prediction predicted
 even_prediction coarser a b = rw (even_rem a, even_rem b, even_div a, even_div b) refl
 

@@ -1,3 +1,5 @@
 pub mod SumLemmas
 pub mod PredictionLemmas
+pub mod AroundLemmas
+pub mod StepLemmas
 pub mod LawLemmas

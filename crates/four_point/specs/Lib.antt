@@ -1,3 +1,4 @@
 pub mod Prediction
 pub mod Patches
+pub mod Steps
 pub mod Laws

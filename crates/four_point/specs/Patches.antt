@@ -28,3 +28,8 @@ pub record IsOfBlock (first cell : ℤ) : Type 0 where
 pub record IsAtMost (n : ℕ) (z : ℤ) : Type 0 where
   pub low : neg_ℤ (pos n) ≤ℤ z
   pub high : z ≤ℤ pos n
+
+-- the column or row lies between -2^29 and 2^29
+pub record IsPlace (place : ℤ) : Type 0 where
+  pub low : neg_ℤ (pos (2 ^ 29)) ≤ℤ place
+  pub high : place ≤ℤ pos (2 ^ 29)

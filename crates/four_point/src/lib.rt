@@ -8,13 +8,19 @@
 //! round it by the products of both weights, each rounded to the nearest whole metre once, halves up.
 #![tactic(auto)]
 
+mod around;
 mod laws;
 mod patch;
+mod steps;
 mod sums;
 
-pub use laws::{even_residual, residual_size};
+pub use around::{Heights, patch_around};
+pub use laws::{
+    brought_heights, code_by_one, code_size, even_residual, predictions, residual_size, values_are_near,
+};
 pub use patch::Patch;
 pub use prediction::{predict, residual, restore};
+pub use steps::{bring, code_by, value_by};
 
 mod prediction;
 #[cfg(test)]

@@ -30,7 +30,7 @@ pub fn residual(patch: &Patch, i: i32, j: i32, height: i16) -> i32
     requires column { IsOfBlock patch.now.i0 i }
     requires row { IsOfBlock patch.now.j0 j }
     ensures value { result ≡ height -ℤ prediction (patch_height patch.now) i j }
-    ensures size { IsAtMost 131071 result }
+    ensures size { IsAtMost 83968 result }
 {
     i32::from(height) - predict(patch, i, j)
 }

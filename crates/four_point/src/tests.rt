@@ -1,4 +1,4 @@
-use crate::{Patch, predict, residual, restore};
+use crate::{Heights, Patch, bring, code_by, patch_around, predict, residual, restore, value_by};
 
 const LOW: i16 = -32767;
 
@@ -58,4 +58,52 @@ fn negative_cells_round_down_too(rt: HostRuntime) {
     h[4][3] = 256;
     let patch = Patch { i0: -5, j0: -5, h };
     assert_eq!(rt; predict(&patch, -1, -1), -90);
+}
+
+#[test]
+fn heights_by_steps(rt: HostRuntime) {
+    // Over coarser heights of 0: the height, the step, its code, the code's value and the height of that.
+    for (height, step, code, value, near) in [
+        (30000i16, 3u8, 10000, 30000, 30000i16),
+        (1000, 7, 143, 1001, 1001),
+        (-1000, 7, -143, -1001, -1001),
+        (32767, 9, 3641, 32769, 32767),
+        (-32768, 255, -129, -32895, -32768),
+        (5, 1, 5, 5, 5),
+    ] {
+        assert!(rt; step % 2 == 1);
+        let patch = Patch {
+            i0: -1,
+            j0: -1,
+            h: [[0; 7]; 7],
+        };
+        assert_eq!(rt; code_by(&patch, 1, 1, height, step), code);
+        assert!(rt; code > -131072 && code < 131072);
+        assert_eq!(rt; value_by(&patch, 1, 1, code, step), value);
+        assert_eq!(rt; bring(value), near);
+    }
+    assert_eq!(rt; (bring(-32769), bring(100000), bring(-7)), (-32768, 32767, -7));
+}
+
+struct Flat(i16);
+
+impl Heights for Flat {
+    ghost heights = { λ level a b. level.0 };
+
+    fn height(&self, _a: i32, _b: i32) -> i16 {
+        self.0
+    }
+}
+
+#[test]
+fn a_patch_is_filled_by_one_call(rt: HostRuntime) {
+    let patch = patch_around(&Flat(9), 3, -5);
+    assert_eq!(rt;
+        patch,
+        Patch {
+            i0: 3,
+            j0: -5,
+            h: [[9; 7]; 7]
+        }
+    );
 }

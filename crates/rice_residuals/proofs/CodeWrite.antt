@@ -1,5 +1,6 @@
 -- The lengths of codes, the search for the best parameter, and the bits that a code's pushes put.
 use Rattle.std.proofs.Common.{◌≡◌, ℕ, suc, ◌+◌, ◌-◌, ◌*◌, ◌/◌, ◌%◌, ◌^◌, ◌<◌, ◌≤◌, ℤ, Bool, true, false, List, [], ◌∷◌, ◌++◌, length, take, get_or, replicate, pos, sym, refl, ap, ap₂, ◌∙◌, subst, ⊎_elim, arith, append_assoc, length-append, pow_pos, pow-add, pow_mono, mul_comm}
+use Rattle.std.proofs.Math.Nat.{mul-le-mul_left}
 use Rattle.std.proofs.lemmas.Bool.{cases_lt}
 use Rattle.std.proofs.lemmas.List.{length-replicate, take_more, take_all}
 use Rattle.std.proofs.lemmas.Nat.{shl_whole, mul-add-lt}
@@ -89,6 +90,60 @@ least_is_best xs r least h =
       first = λ s l. omega (arith, word_bits_length r xs, word_bits_length s xs, h.first s l);
     } in
     sym (best_parameter_is xs r best)
+
+-- ---- bounds on the codes' lengths
+
+code_at_least : (r u : ℕ) → r < 16 → r + 1 ≤ length (code r u)
+code_at_least r u h =
+    ⊎_elim
+    (λ (s : u / 2 ^ r < 32). omega (arith, short_length r u s))
+    (λ (l : 32 ≤ u / 2 ^ r). omega (arith, long_length r u l))
+    (cases_lt (u / 2 ^ r) 32)
+
+code_at_most : (r u : ℕ) → r < 16 → length (code r u) ≤ 50
+code_at_most r u h =
+    ⊎_elim
+    (λ (s : u / 2 ^ r < 32). omega (arith, short_length r u s))
+    (λ (l : 32 ≤ u / 2 ^ r). omega (arith, long_length r u l))
+    (cases_lt (u / 2 ^ r) 32)
+
+pub codes_at_least : (r : ℕ) (xs : List ℤ) → r < 16 → length xs * (r + 1) ≤ length (codes r xs)
+unfolding codes
+codes_at_least r [] h = omega arith
+codes_at_least r (x ∷ xs) h =
+    let more : length (codes r xs) ≡ length (codes r xs) = refl in
+    let next : length xs * (r + 1) ≤ length (codes r xs) = codes_at_least r xs h in
+    let first : r + 1 ≤ length (code r (folded x)) = code_at_least r (folded x) h in
+    let whole : length (code r (folded x) ++ codes r xs) ≡ length (code r (folded x)) + length (codes r xs) = length-append (code r (folded x)) (codes r xs) in
+    omega arith
+
+pub codes_at_most : (r : ℕ) (xs : List ℤ) → r < 16 → length (codes r xs) ≤ 50 * length xs
+unfolding codes
+codes_at_most r [] h = omega arith
+codes_at_most r (x ∷ xs) h =
+    let next : length (codes r xs) ≤ 50 * length xs = codes_at_most r xs h in
+    let first : length (code r (folded x)) ≤ 50 = code_at_most r (folded x) h in
+    let whole : length (code r (folded x) ++ codes r xs) ≡ length (code r (folded x)) + length (codes r xs) = length-append (code r (folded x)) (codes r xs) in
+    omega arith
+
+-- where no code by a greater parameter can be shorter, the search ends
+pub least_stays : (xs : List ℤ) (n r least : ℕ) → n ≤ 16 → IsLeastBelow xs n r least → least ≤ length xs * (n + 1) → IsLeastBelow xs 16 r least
+least_stays xs n r least few h l =
+    let b = h.below in
+    let v = h.value in
+    record {
+      below = omega arith;
+      value = v;
+      fewest = λ s m.
+          ⊎_elim
+          (λ (i : s < n). h.fewest s i)
+          (λ (i : n ≤ s).
+          let least_of : length xs * (s + 1) ≤ length (codes s xs) = codes_at_least s xs m in
+          let wider : length xs * (n + 1) ≤ length xs * (s + 1) = mul-le-mul_left (length xs) (omega arith) in
+          omega arith)
+          (cases_lt s n);
+      first = h.first;
+    }
 
 -- ---- pushes
 

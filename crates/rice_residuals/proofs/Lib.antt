@@ -15,3 +15,4 @@ pub mod Writing
 pub mod EndRead
 pub mod WordRead
 pub mod CodeWrite
+pub mod ShortWords

@@ -1,4 +1,4 @@
-ghost use Rattle.std.specs.Prelude.{◌≡◌, ℕ, ◌≤◌, ◌<◌, ◌^◌, ◌+◌, ◌-◌, ◌*◌, List, ◌++◌, length, IfOk, OnOk};
+ghost use Rattle.std.specs.Prelude.{◌≡◌, ℕ, ◌≤◌, ◌<◌, ◌^◌, ◌+◌, ◌-◌, ◌*◌, List, ◌++◌, length, IfOk, OnOk, OnErr};
 ghost use Rattle.std.specs.List.{All};
 ghost use Rattle.rice_residuals.specs.Code.{IsResidual, code, codes};
 ghost use Rattle.rice_residuals.specs.Word.{best_parameter, canonical_word};
@@ -49,7 +49,12 @@ fn parameter_of(residuals: &[i32]) -> u8
 {
     let mut best = 0;
     let mut least = codes_length(residuals, 0);
+    let count = residuals.len() as u32;
     for parameter in 1..16 {
+        // Each code has more bits than its parameter says.
+        if count * (u32::from(parameter) + 1) >= least {
+            return best;
+        }
         let length = codes_length(residuals, parameter);
         if length < least {
             best = parameter;
@@ -111,6 +116,18 @@ fn write_codes(writer: &mut BitWriter, residuals: &[i32], parameter: u8) -> Resu
 {
     for value in residuals {
         write_code(writer, fold(*value), parameter)?;
+    }
+    Ok(())
+}
+
+/// Puts the word of fewest bits, by the least parameter on a tie, behind the bytes. Where memory runs out, they stay.
+pub fn append_block(alloc: Global, out: &mut Vec<u8>, residuals: &Residuals) -> Result<(), NoMemory>
+    ensures ok { OnOk result (out.new.items ≡ out.old.items ++ canonical_word (residual_list residuals.now)) }
+    ensures err { OnErr result (out.new.items ≡ out.old.items) }
+{
+    let word = write_block(alloc, residuals)?;
+    if out.extend_from_slice(&word).is_err() {
+        return Err(NoMemory);
     }
     Ok(())
 }

@@ -28,3 +28,8 @@ pub fn canonical_word_is_a_word()
         → length (word_bits (best_parameter xs) xs) < length (word_bits r xs) }
     ensures shortest { (xs : List ℤ) → (bytes : List ℕ) → IsWordOf xs bytes → length (canonical_word xs) ≤ length bytes }
 {}
+
+/// The canonical word of up to 64 residuals has at most 401 bytes.
+pub fn canonical_words_are_short()
+    ensures { (xs : List ℤ) → length xs ≤ 64 → length (canonical_word xs) ≤ 401 }
+{}

@@ -17,7 +17,7 @@ mod tests;
 mod writer;
 
 pub use decoding::read_block;
-pub use encoding::write_block;
+pub use encoding::{append_block, write_block};
 pub use fault::{BlockFault, NoMemory};
 pub use folding::{fold, unfold};
 pub use reader::BitReader;

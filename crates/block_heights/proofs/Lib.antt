@@ -1,0 +1,4 @@
+pub mod CodedRows
+pub mod Cells
+pub mod Codings
+pub mod Parts

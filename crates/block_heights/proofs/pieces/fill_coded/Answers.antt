@@ -1,0 +1,34 @@
+use Rattle.std.proofs.Common.{◌≡◌, ◌<◌, ◌∙◌, ℕ, ℤ, pos, length, sym, ap, subst, rules, arith}
+use mathlib.Core.Path.{ap₂}
+use Rattle.std.specs.Int.{w16}
+use Rattle.std.proofs.lemmas.Int.{to_z-of_z}
+use mir.Val.{SFits}
+use Rattle.four_point.specs.Patches.{patch_height}
+use Rattle.block_heights.specs.Rows.{table_code}
+use Rattle.block_heights.specs.Pieces.{within, coded_height, column_of, row_of}
+use Rattle.block_heights.proofs.Cells.{piece_more, near_more, near_at}
+use Rattle.block_heights.proofs.pieces.fill_coded.Goals as goal
+
+pub loop-k-preserved : goal.loop-k-preserved
+loop-k-preserved c =
+    let a = c.in-Ok.ensures in
+    let cells = c.args.cells in
+    let k = c.loop-k.k in
+    let coarser = patch_height c.args.codes.patch.now in
+    let step = c.args.codes.step in
+    let code = table_code c.args.codes.inside c.args.codes.table.now in
+    let heights = within c.args.codes.inside (coded_height coarser step code) in
+    let cell = c.cell_at in
+    let same = c.loop-k.auto.out in
+    let inside : k < length c.loop-k.out = omega arith in
+    let fits : SFits w16 c.in-Ok.height = search rules in
+    record {
+      heights =
+          piece_more k heights cells c.loop-k.out _ inside
+          (to_z-of_z w16 c.in-Ok.height fits ∙ a.height ∙ ap₂ heights cell.ensures.column cell.ensures.row)
+          c.loop-k.invariant.heights;
+      near =
+          near_more k coarser step code c.args.codes.inside cells
+          (near_at coarser step code c.args.codes.inside cell.result.i cell.result.j (column_of cells k) (row_of cells k) cell.ensures.column cell.ensures.row a.near)
+          c.loop-k.invariant.near;
+    }

@@ -1,0 +1,296 @@
+//! The heights of a piece's cells, row by row.
+
+ghost use Rattle.std.specs.Prelude.{◌≡◌, ◌↔◌, ◌≤◌, ◌<◌, ◌+◌, ◌*◌, ◌-◌, ◌/◌, ◌%◌, ◌^◌, ℕ, true, false, List, [], length, pos, neg_ℤ, ◌+ℤ◌, ◌≤ℤ◌, IsTrue, IfOk, IfErr, IfSome, IfNone, OnOk, slice_index_or};
+ghost use Rattle.clip_regions.specs.Regions.{columns, rows, contains, IsPlaced};
+ghost use Rattle.terrain_model.specs.Tile.{raw_sample};
+ghost use Rattle.four_point.specs.Patches.{patch_height, IsOfBlock};
+ghost use Rattle.four_point.specs.Steps.{IsStep, IsNear, value_of};
+ghost use Rattle.block_heights.specs.Rows.{table_code, HasCodes};
+ghost use Rattle.block_heights.specs.Pieces.{IsSmall, Lies, IsInPatch, within, column_of, row_of, IsPieceUpTo, plain_height, coded_height, AreNearUpTo, HasOut, IsOutCell};
+
+ghost use Rattle.clip_regions.specs.Regions.{area};
+ghost use Rattle.rice_residuals.specs.Faults.{HasFault};
+ghost use Rattle.store_model.specs.Blocks.{code_count};
+ghost use Rattle.store_model.specs.Faults.{HasPlainFault};
+ghost use Rattle.block_heights.specs.Decoded.{IsPart, IsNearZero, HasKind, HasHeights, HasPieceFault, HasCodedHeights, HasWordFault, HasPlainPieceFault};
+
+use crate::block::{Block, Kind, PieceFault};
+use crate::codes::{Sides, code_table, count_of};
+use byteorder::{BigEndian, ByteOrder};
+use clip_regions::Region;
+use four_point::{Patch, bring, value_by};
+use rice_residuals::{BlockFault, read_block};
+
+/// How many columns and rows a region has.
+#[tactic(auto, unfolding(clip_regions::specs::Regions::columns, clip_regions::specs::Regions::rows))]
+pub(crate) fn sides_of(region: Region) -> Sides
+    requires { IsSmall region }
+    ensures columns { result.columns ≡ columns region }
+    ensures rows { result.rows ≡ rows region }
+    ensures some_columns { 1 ≤ result.columns }
+    ensures few_columns { result.columns ≤ 8 }
+    ensures some_rows { 1 ≤ result.rows }
+    ensures few_rows { result.rows ≤ 8 }
+{
+    Sides {
+        columns: (region.x1 - region.x0 + 1) as usize,
+        rows: (region.y1 - region.y0 + 1) as usize,
+    }
+}
+
+/// A cell of a level.
+#[derive(Clone, Copy)]
+struct Cell {
+    i: i32,
+    j: i32,
+}
+
+/// Cell `k` of a region, row by row from the north and each row from the west.
+fn cell_at(region: Region, k: usize) -> Cell
+    requires region { IsSmall region }
+    requires inside { k < columns region * rows region }
+    ensures column { result.i ≡ column_of region k }
+    ensures row { result.j ≡ row_of region k }
+    ensures inside { Lies region result.i result.j }
+{
+    let width = sides_of(region).columns;
+    Cell {
+        i: region.x0 + (k % width) as i32,
+        j: region.y0 + (k / width) as i32,
+    }
+}
+
+/// Is the value a height of 16 bits or within half a step of one?
+fn is_near(value: i32, step: u8) -> bool
+    ensures { IsTrue result ↔ IsNear step value }
+{
+    let half = i32::from(step.saturating_sub(1) / 2);
+    -32768 - half <= value && value <= 32767 + half
+}
+
+/// How many columns and rows a cell lies after the first of its region.
+#[derive(Clone, Copy)]
+struct Place {
+    a: usize,
+    b: usize,
+}
+
+/// Where a cell lies in its region.
+fn place_in(region: Region, cell: Cell) -> Place
+    requires region { IsSmall region }
+    requires inside { Lies region cell.i cell.j }
+    ensures column { cell.i ≡ region.x0 +ℤ pos result.a }
+    ensures row { cell.j ≡ region.y0 +ℤ pos result.b }
+    ensures in_columns { result.a < columns region }
+    ensures in_rows { result.b < rows region }
+    ensures few_columns { result.a < 8 }
+    ensures few_rows { result.b < 8 }
+{
+    Place {
+        a: (cell.i - region.x0) as usize,
+        b: (cell.j - region.y0) as usize,
+    }
+}
+
+/// The code of a cell of a region, by a table whose first column and row are those of the region.
+fn code_at(table: &[[i32; 8]; 8], region: Region, cell: Cell) -> i32
+    requires region { IsSmall region }
+    requires inside { Lies region cell.i cell.j }
+    requires in_range { (b : ℕ) → HasCodes (slice_index_or table.now b []) }
+    ensures value { result ≡ table_code region table.now cell.i cell.j }
+    ensures low { neg_ℤ (pos (2 ^ 17)) ≤ℤ result }
+    ensures high { result ≤ℤ pos (2 ^ 17 - 1) }
+{
+    let place = place_in(region, cell);
+    table[place.b][place.a]
+}
+
+/// The block of which a piece is filled: its patch of coarser heights, its codes, its cells in the terrain and its step.
+#[derive(Clone, Copy)]
+struct Codes<'a> {
+    patch: &'a Patch,
+    table: &'a [[i32; 8]; 8],
+    inside: Region,
+    step: u8,
+}
+
+/// The height of a cell, 0 outside the terrain.
+fn height_at(codes: Codes<'_>, cell: Cell) -> Result<i16, PieceFault>
+    requires inside { IsSmall codes.inside }
+    requires patch { IsInPatch codes.patch.now codes.inside }
+    requires step { IsStep codes.step }
+    requires in_range { (b : ℕ) → HasCodes (slice_index_or codes.table.now b []) }
+    ensures height { IfOk result (λ h. h ≡ within codes.entry.inside (coded_height (patch_height codes.entry.patch.now) codes.entry.step (table_code codes.entry.inside codes.entry.table.now)) cell.i cell.j) }
+    ensures near { OnOk result (IsTrue (contains codes.entry.inside cell.i cell.j) → IsNear codes.entry.step (value_of (patch_height codes.entry.patch.now) codes.entry.step cell.i cell.j (table_code codes.entry.inside codes.entry.table.now cell.i cell.j))) }
+    ensures far { IfErr result (IsOutCell (patch_height codes.entry.patch.now) codes.entry.step (table_code codes.entry.inside codes.entry.table.now) codes.entry.inside cell.i cell.j) }
+{
+    if !codes.inside.contains(cell.i, cell.j) {
+        return Ok(0);
+    }
+    let code = code_at(codes.table, codes.inside, cell);
+    let value = value_by(codes.patch, cell.i, cell.j, code, codes.step);
+    if !is_near(value, codes.step) {
+        return Err(PieceFault::OutOfRange {
+            i: cell.i,
+            j: cell.j,
+            value,
+        });
+    }
+    Ok(bring(value))
+}
+
+/// Writes the heights of a piece's cells, row by row.
+fn fill_coded(codes: Codes<'_>, cells: Region, out: &mut [i16]) -> Result<(), PieceFault>
+    requires inside { IsSmall codes.inside }
+    requires patch { IsInPatch codes.patch.now codes.inside }
+    requires step { IsStep codes.step }
+    requires in_range { (b : ℕ) → HasCodes (slice_index_or codes.table.now b []) }
+    requires cells { IsSmall cells }
+    requires places { length out.old ≡ columns cells * rows cells }
+    ensures heights { OnOk result (IsPieceUpTo (length out.new) (within codes.entry.inside (coded_height (patch_height codes.entry.patch.now) codes.entry.step (table_code codes.entry.inside codes.entry.table.now))) cells out.new) }
+    ensures near { OnOk result (AreNearUpTo (length out.new) (patch_height codes.entry.patch.now) codes.entry.step (table_code codes.entry.inside codes.entry.table.now) codes.entry.inside cells) }
+    ensures far { IfErr result (HasOut (patch_height codes.entry.patch.now) codes.entry.step (table_code codes.entry.inside codes.entry.table.now) codes.entry.inside cells (length out.old)) }
+{
+    for k in 0..out.len() {
+        match height_at(codes, cell_at(cells, k)) {
+            Ok(height) => out[k] = height,
+            Err(fault) => return Err(fault),
+        }
+    }
+    Ok(())
+}
+
+/// Number `n` of those that stand in two bytes each, the high byte first.
+#[tactic(auto, unfolding(terrain_model::specs::Tile::raw_sample, terrain_model::specs::Tile::signed_pair))]
+fn number_at(bytes: &[u8], n: usize) -> i16
+    requires { 2 * n + 1 < length bytes.now }
+    ensures { result ≡ raw_sample bytes.now n }
+{
+    BigEndian::read_i16(&bytes[2 * n..])
+}
+
+/// The height of a cell by the bytes of a plain block, 0 outside the terrain.
+fn plain_at(bytes: &[u8], inside: Region, cell: Cell) -> i16
+    requires inside { IsSmall inside }
+    requires whole { length bytes.now ≡ 2 * (columns inside * rows inside) }
+    ensures { result ≡ within inside (plain_height bytes.now inside) cell.i cell.j }
+{
+    if !inside.contains(cell.i, cell.j) {
+        return 0;
+    }
+    let width = sides_of(inside).columns;
+    let place = place_in(inside, cell);
+    number_at(bytes, place.b * width + place.a)
+}
+
+/// Writes the heights of a piece's cells of a plain block, row by row.
+fn fill_plain(bytes: &[u8], inside: Region, cells: Region, out: &mut [i16])
+    requires inside { IsSmall inside }
+    requires whole { length bytes.now ≡ 2 * (columns inside * rows inside) }
+    requires cells { IsSmall cells }
+    requires places { length out.old ≡ columns cells * rows cells }
+    ensures { IsPieceUpTo (length out.new) (within inside (plain_height bytes.now inside)) cells out.new }
+{
+    for k in 0..out.len() {
+        out[k] = plain_at(bytes, inside, cell_at(cells, k));
+    }
+}
+
+/// The heights of a piece of a block of codes.
+fn word_piece(bytes: &[u8], inside: Region, step: u8, patch: &Patch, cells: Region, out: &mut [i16]) -> Result<(), PieceFault>
+    requires bytes { length bytes.now < 65536 }
+    requires inside { IsSmall inside }
+    requires patch { IsInPatch patch.now inside }
+    requires step { IsStep step }
+    requires cells { 0 < length out.old → IsSmall cells }
+    requires places { length out.old ≡ columns cells * rows cells }
+    ensures heights { OnOk result (HasCodedHeights (patch_height patch.now) step inside cells bytes.now out.new) }
+    ensures fault { IfErr result (HasWordFault (patch_height patch.now) step inside cells bytes.now (length out.old)) }
+{
+    let sides = sides_of(inside);
+    let codes = match read_block(bytes, count_of(inside, sides)) {
+        Ok(codes) => codes,
+        Err(fault) => return Err(PieceFault::BadBlock { fault }),
+    };
+    let table = code_table(codes.used(), inside, sides);
+    if out.is_empty() {
+        return Ok(());
+    }
+    let codes = Codes {
+        patch,
+        table: &table,
+        inside,
+        step,
+    };
+    fill_coded(codes, cells, out)
+}
+
+/// The fault of the bytes of a plain block of so many cells, if they have one.
+fn plain_fault(bytes: &[u8], cells: usize) -> Option<BlockFault>
+    requires bytes { length bytes.now < 65536 }
+    requires cells { cells ≤ 64 }
+    ensures whole { IfNone result (length bytes.now ≡ 2 * cells) }
+    ensures fault { IfSome result (HasPlainFault cells bytes.now) }
+{
+    let length = bytes.len() as u32;
+    let whole = 2 * cells as u32;
+    if length < whole {
+        return Some(BlockFault::CutShort { bit: 8 * length });
+    }
+    if length > whole {
+        return Some(BlockFault::Excess {
+            bytes: length - whole,
+        });
+    }
+    None
+}
+
+/// The heights of a piece of a plain block.
+fn plain_piece(bytes: &[u8], inside: Region, cells: Region, out: &mut [i16]) -> Result<(), PieceFault>
+    requires bytes { length bytes.now < 65536 }
+    requires inside { IsSmall inside }
+    requires cells { 0 < length out.old → IsSmall cells }
+    requires places { length out.old ≡ columns cells * rows cells }
+    ensures whole { OnOk result (length bytes.now ≡ 2 * area inside) }
+    ensures heights { OnOk result (IsPieceUpTo (length out.new) (within inside (plain_height bytes.now inside)) cells out.new) }
+    ensures fault { IfErr result (λ fault. HasPlainPieceFault (area inside) bytes.now fault) }
+{
+    let sides = sides_of(inside);
+    if let Some(fault) = plain_fault(bytes, sides.columns * sides.rows) {
+        return Err(PieceFault::BadBlock { fault });
+    }
+    if !out.is_empty() {
+        fill_plain(bytes, inside, cells, out);
+    }
+    Ok(())
+}
+
+/// Writes a 0 for each cell.
+fn fill_zeros(out: &mut [i16], cells: Region)
+    ensures { IsPieceUpTo (length out.new) (λ i j. pos 0) cells out.new }
+{
+    for height in out.iter_mut() {
+        *height = 0;
+    }
+}
+
+/// The heights of some cells of a block, row by row from the north and each row from the west, in metres; 0 outside the
+/// terrain. `patch` is the block's patch of coarser heights. After a refusal nothing is said of `out`. No memory is taken.
+pub fn piece_heights(block: &Block<'_>, patch: &Patch, cells: Region, out: &mut [i16]) -> Result<(), PieceFault>
+    requires placed { IsNearZero block.now.bx block.now.by }
+    requires kind { HasKind block.now.kind block.now.bx block.now.by block.now.inside patch.now }
+    requires step { IsStep block.now.step }
+    requires cells { IsPart block.now.bx block.now.by cells }
+    requires places { length out.old ≡ area cells }
+    ensures heights { OnOk result (HasHeights block.now.kind patch.now block.now.step block.now.inside cells out.new) }
+    ensures fault { IfErr result (HasPieceFault block.now.kind patch.now block.now.step block.now.inside cells (length out.old)) }
+{
+    match block.kind {
+        Kind::Outside => {
+            fill_zeros(out, cells);
+            Ok(())
+        }
+        Kind::Plain(bytes) => plain_piece(bytes, block.inside, cells, out),
+        Kind::Words(bytes) => word_piece(bytes, block.inside, block.step, patch, cells, out),
+    }
+}

@@ -1,0 +1,7 @@
+pub mod Sizes
+pub mod Blocks
+pub mod Format
+pub mod Store
+pub mod Restored
+pub mod Faults
+pub mod Laws

@@ -1,0 +1,46 @@
+use rice_residuals::BlockFault;
+
+/// A field of a store's header.
+#[derive(Clone, Copy, Debug, PartialEq, Eq)]
+pub enum Field {
+    /// The width is 0 or above 2^26.
+    Width,
+    /// The height is 0 or above 2^26.
+    Height,
+    /// Width and height together have more than 2^26 samples.
+    Samples,
+    /// The number of levels is 0 or above 12.
+    Levels,
+    /// The step is even.
+    Step,
+}
+
+/// The first fault of bytes that are no store, in the order in which they are read. Offsets count bytes from 0.
+#[derive(Clone, Copy, Debug, PartialEq, Eq)]
+pub enum StoreFault {
+    /// The first bytes, up to four, are not those of `GCT1` or `GCT2`.
+    BadMagic,
+    /// A field of the header is out of its range.
+    BadHeader { field: Field },
+    /// The bytes end before the header, or before a block or its length, is whole: `offset` is their number.
+    CutShort { offset: u64 },
+    /// The bytes of a block, in column `bx` and row `by` of the level's blocks, are no word of its codes or not its heights.
+    BadBlock {
+        level: u8,
+        bx: u32,
+        by: u32,
+        fault: BlockFault,
+    },
+    /// The cell in column `i` and row `j` of the level is the first of its block whose value, in metres, is no height of 16
+    /// bits and not within half a step of one.
+    OutOfRange {
+        level: u8,
+        i: u32,
+        j: u32,
+        value: i32,
+    },
+    /// Bytes follow the last block, the first of them at `offset`.
+    Excess { offset: u64 },
+    /// Memory ran out.
+    NoMemory,
+}
