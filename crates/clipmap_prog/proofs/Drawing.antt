@@ -1,9 +1,12 @@
 -- The frame that is drawn is the frame of whole windows.
-use Rattle.std.proofs.Common.{◌≡◌, ℕ, ◌+◌, ◌*◌, ◌-◌, ◌^◌, ◌≤◌, ℤ, pos, ◌+ℤ◌, ◌-ℤ◌, ◌≤ℤ◌, int_lt, ◌||◌, if◌then◌else◌, false, List, [], ◌∷◌, length, sym, ◌∙◌, ap, arith}
+use Rattle.std.proofs.Common.{◌≡◌, ℕ, zero, suc, subst, inl, inr, ◌+◌, ◌*◌, ◌-◌, ◌^◌, ◌≤◌, ℤ, pos, ◌+ℤ◌, ◌-ℤ◌, ◌≤ℤ◌, int_lt, ◌||◌, if◌then◌else◌, false, List, [], ◌∷◌, length, sym, ◌∙◌, ap, arith}
 use Rattle.std.proofs.Math.Pow.{pow_mono}
 use borrow.Author.Differences.{ints}
 use Rattle.clip_regions.specs.declared.region.Region.{Region}
-use Rattle.clip_regions.specs.Regions.{empty_region, is_empty, columns, rows}
+use Rattle.clip_regions.specs.Regions.{empty_region, is_empty, columns, rows, HasEvenCorners}
+use Rattle.active_region.specs.Active.{AreFilled}
+use Rattle.plan_model.specs.Limits.{IsViewed}
+use Rattle.plan_model.specs.Sound.{IsInside}
 use Rattle.terrain_model.specs.Terrain.{Terrain}
 use Rattle.plan_model.specs.Window.{window, half_width}
 use Rattle.plan_model.specs.Actives.{actives, drawable}
@@ -61,6 +64,18 @@ pub one_whole_window : (k : ℕ) (x y : ℤ) → 4 ≤ k → whole_regions k 1 x
 unfolding whole_regions whole_windows actives window
 one_whole_window k x y low =
     ap (λ (r : Region). r ∷ []) (drawn_whole (window k 0 x y) (2 * half_width k) (half_wide k low) (omega (arith, ints)) (omega (arith, ints)))
+
+-- that window can be filled, and it is drawn as it is
+pub one_filled : (k : ℕ) (x y : ℤ) (active : Region) (h : ℕ) → active ≡ window k 0 x y → IsViewed x → IsViewed y → HasEvenCorners active → active.x1 ≡ active.x0 +ℤ pos (2 * h) → active.y1 ≡ active.y0 +ℤ pos (2 * h) → AreFilled k (active ∷ [])
+one_filled k x y active h is column row even across along zero listed =
+    let itself : IsInside active active = record { west = omega (arith, ints); columns = omega (arith, ints); east = omega (arith, ints); north = omega (arith, ints); rows = omega (arith, ints); south = omega (arith, ints) } in
+    inr (record { x = x; y = y; column = column; row = row; part = inr (record { inside = subst (λ (w : Region). IsInside w active) is itself; even = even }) })
+one_filled k x y active h is column row even across along (suc level) listed = absurd (omega arith)
+
+pub one_drawn : (k : ℕ) (x y : ℤ) (active : Region) → 4 ≤ k → active ≡ window k 0 x y → actives k 0 (active ∷ []) ≡ active ∷ []
+unfolding whole_regions whole_windows
+one_drawn k x y active low is =
+    ap (λ (r : Region). actives k 0 (r ∷ [])) is ∙ one_whole_window k x y low ∙ ap (λ (r : Region). r ∷ []) (sym is)
 
 -- a mesh with the vertices and triangles of one level has the text of the frame of whole windows
 pub drawn_text : (k : ℕ) (x y : ℤ) (terrain : Terrain) (active : Region) (drawn : MeshLists) → 4 ≤ k → active ≡ window k 0 x y →

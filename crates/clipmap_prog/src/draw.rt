@@ -4,6 +4,7 @@ ghost use Rattle.plan_model.specs.Limits.{IsSize, IsViewed};
 ghost use Rattle.clipmap_prog.specs.WholeFrame.{told_line, whole_line, whole_text};
 
 use crate::level_mesh::level_mesh;
+use active_region::actives;
 use height_pyramid::Grid;
 use level_frame::window;
 use mesh_model::one_level_mesh;
@@ -46,7 +47,7 @@ pub(crate) fn draw(alloc: Global, grid: &Grid, k: u8, x: i32, y: i32) -> Result<
         number: 0,
         x,
         y,
-        active,
+        actives: actives(&[active], k, 0),
     };
     let text = frame_text(alloc, &mesh, &header)?;
     let line = frame_line(alloc, 0, mesh.vertices().len(), mesh.triangles().len())?;

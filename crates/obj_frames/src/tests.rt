@@ -1,8 +1,33 @@
 //! Worked texts.
 
 use crate::{Bounds, Header, Mesh, Part, PartKind, Vertex, frame_text};
+use active_region::actives;
 use clip_regions::Region;
 use std::test::Fail;
+
+// Whole windows of two levels round a viewer at (1, 1), for K = 4.
+const WINDOWS: [Region; 2] = [
+    Region {
+        x0: -6,
+        y0: -6,
+        x1: 8,
+        y1: 8,
+    },
+    Region {
+        x0: -6,
+        y0: -6,
+        x1: 8,
+        y1: 8,
+    },
+];
+
+// A level of which nothing is filled.
+const NOTHING: [Region; 1] = [Region {
+    x0: 0,
+    y0: 0,
+    x1: -1,
+    y1: -1,
+}];
 
 #[test]
 fn prints_heights(rt: HostRuntime) -> Result<(), Fail> {
@@ -34,17 +59,11 @@ fn prints_heights(rt: HostRuntime) -> Result<(), Fail> {
         },
     ]?;
     let mesh = Mesh::new(vertices, Vec::new(rt.alloc()), Vec::new(rt.alloc()));
-    let active = Region {
-        x0: 0,
-        y0: 0,
-        x1: -1,
-        y1: -1,
-    };
     let header = Header {
         number: 18446744073709551615,
         x: -3,
         y: 5,
-        active,
+        actives: actives(&NOTHING, 4, 0),
     };
     let text = frame_text(rt.alloc(), &mesh, &header)?;
     let wanted =
@@ -90,21 +109,15 @@ fn prints_and_gives_back_a_triangle(rt: HostRuntime) -> Result<(), Fail> {
     let triangles = vec![in rt.alloc(); [0u32, 1, 2]]?;
     let parts = vec![in rt.alloc(); part]?;
     let mesh = Mesh::new(vertices, triangles, parts);
-    let active = Region {
-        x0: -6,
-        y0: -6,
-        x1: -5,
-        y1: -5,
-    };
     let header = Header {
         number: 0,
         x: 1,
         y: 1,
-        active,
+        actives: actives(&WINDOWS, 4, 0),
     };
     let text = frame_text(rt.alloc(), &mesh, &header)?;
     let wanted =
-        b"# clipmap frame 0\n# viewer 1 1\n# level 0 active -6 -6 -5 -5\nv -6 1.00000 -6\nv -6 2.00000 -5\nv -5 3.00000 -5\nf 1 2 3\n";
+        b"# clipmap frame 0\n# viewer 1 1\n# level 0 active -6 -6 8 8\n# level 1 active -6 -6 8 8\nv -6 1.00000 -6\nv -6 2.00000 -5\nv -5 3.00000 -5\nf 1 2 3\n";
     assert_eq!(rt; text.as_slice(), wanted.as_slice());
     assert_eq!(rt;
         (

@@ -1,12 +1,12 @@
 //! The text of a frame.
 
-ghost use Rattle.std.specs.Prelude.{◌≡◌, ◌++◌, [], ◌∷◌, IfOk, OnOk, flat_map};
-ghost use Rattle.mesh_model.specs.Text.{head_text, vertex_line, triangle_line, frame_text as text_of_frame};
+ghost use Rattle.std.specs.Prelude.{◌≡◌, ◌++◌, IfOk, OnOk, flat_map};
+ghost use Rattle.mesh_model.specs.Text.{head_text, level_lines, vertex_line, triangle_line, frame_text as text_of_frame};
 
 use crate::lines::{append_frame, append_level, append_triangle, append_vertex, append_viewer};
 use crate::memory::NoMemory;
 use crate::mesh::Mesh;
-use clip_regions::Region;
+use active_region::Actives;
 use itoa::Buffer;
 use mesh_model::Vertex;
 use std::alloc::Global;
@@ -20,17 +20,31 @@ pub struct Header {
     pub x: i32,
     /// The viewer's row at the frame's beginning, in samples.
     pub y: i32,
-    /// The active region of the one level, in cells.
-    pub active: Region,
+    /// The active regions, the finest level first, each in cells of its level.
+    pub actives: Actives,
+}
+
+// Appends the line of each level.
+fn append_levels(
+    text: &mut Vec<u8>,
+    digits: &mut Buffer,
+    actives: &Actives,
+) -> Result<(), NoMemory>
+    ensures { OnOk result (text.new.items ≡ text.old.items ++ level_lines 0 actives.now) }
+{
+    for level in 0..actives.levels() {
+        append_level(text, digits, level, &actives.at(level))?;
+    }
+    Ok(())
 }
 
 // Appends the lines at the head.
 fn append_head(text: &mut Vec<u8>, digits: &mut Buffer, header: &Header) -> Result<(), NoMemory>
-    ensures { OnOk result (text.new.items ≡ text.old.items ++ head_text header.now.number header.now.x header.now.y (header.now.active ∷ [])) }
+    ensures { OnOk result (text.new.items ≡ text.old.items ++ head_text header.now.number header.now.x header.now.y header.now.actives) }
 {
     append_frame(text, digits, header.number)?;
     append_viewer(text, digits, header.x, header.y)?;
-    append_level(text, digits, 0, &header.active)
+    append_levels(text, digits, &header.actives)
 }
 
 // Appends a line for each vertex.
@@ -61,11 +75,11 @@ fn append_triangles(
     Ok(())
 }
 
-/// The text of a frame as a Wavefront OBJ file: the frame's number, the viewer and the level's active
+/// The text of a frame as a Wavefront OBJ file: the frame's number, the viewer and each level's active
 /// region as comments, then a line `v x height y` for each vertex, its height in metres with five digits
 /// after the point, and a line `f a b c` for each triangle, its vertices counted from 1.
 pub fn frame_text(alloc: Global, mesh: &Mesh, header: &Header) -> Result<Vec<u8>, NoMemory>
-    ensures text { IfOk result (λ text. text.items ≡ text_of_frame header.now.number header.now.x header.now.y (header.now.active ∷ []) mesh.now) }
+    ensures text { IfOk result (λ text. text.items ≡ text_of_frame header.now.number header.now.x header.now.y header.now.actives mesh.now) }
 {
     let mut text = Vec::new(alloc);
     let mut digits = Buffer::new();
