@@ -39,7 +39,7 @@ PY
 
 # The first call builds the program where it isn't built yet; it answers with its one fault.
 "$top/clipmap" >/dev/null || true
-program=$top/crates/clipmap_prog/out/clipmap_prog
+program=$top/crates/clipmap/out/clipmap
 
 echo "| side of the tile | seconds | vertices a second | MB of OBJ a second | seconds of cat on the same bytes |"
 echo "|---|---|---|---|---|"

@@ -1,7 +1,10 @@
 pub mod Boxes
+pub mod Concluding
 pub mod Drawing
-pub mod Inputs
+pub mod Ends
+mod Examples
 pub mod Lists
 pub mod Sides
 pub mod Squares
+pub mod Tiles
 pub mod Vertices

@@ -1,32 +1,44 @@
 -- Why a command is refused, and the line that says so.
-use Rattle.std.specs.Prelude.{ℕ, List, ◌++◌, codes, decimal}
+use Rattle.std.specs.Prelude.{ℕ, List, [], ◌++◌, codes, decimal}
+use Rattle.hgt_tiles.specs.declared.tiles.TileFault.{TileFault}
+use Rattle.hgt_tiles.specs.declared.tiles.TileFault.TheVariants as tile
+use Rattle.clipmap_prog.specs.declared.fault.FileFault.{FileFault}
+use Rattle.clipmap_prog.specs.declared.fault.FileFault.TheVariants as file
 use Rattle.clipmap_prog.specs.declared.fault.Fault.{Fault}
 use Rattle.clipmap_prog.specs.declared.fault.Fault.TheVariants as fault
 
--- why a command is refused: its words are no command, the form isn't built, or an input's name, file or length is faulty
+-- why a command is refused: its words are no command, the form isn't built, a word is no tile's name, or a file or the
+-- tile in it is faulty
 pub data Cause : Type 0 where
   Words : Cause
   NotYet : Cause
   BadName : List ℕ → Cause
-  Absent : List ℕ → Cause
-  TooLong : List ℕ → ℕ → ℕ → Cause
-  BadLength : List ℕ → ℕ → Cause
+  File : List ℕ → FileFault → Cause
+  Tile : List ℕ → TileFault → Cause
+
+-- the line of a file of that name that can't be had
+abbrev pub file_line : List ℕ → FileFault → List ℕ
+file_line name file.Absent = codes "fault: Absent " ++ (name ++ codes "\n")
+file_line name (file.TooLong length limit) =
+    codes "fault: TooLong " ++ (name ++ (codes " " ++ (decimal length ++ (codes " " ++ (decimal limit ++ codes "\n")))))
+
+-- the line of a file of that name that is no tile. Want of memory has none
+abbrev pub tile_line : List ℕ → TileFault → List ℕ
+tile_line name (tile.BadLength length) = codes "fault: BadLength " ++ (name ++ (codes " " ++ (decimal length ++ codes "\n")))
+tile_line name tile.NoMemory = []
 
 -- the line of a fault
 abbrev pub cause_line : Cause → List ℕ
 cause_line Words = codes "fault: words\n"
 cause_line NotYet = codes "fault: NotYet\n"
 cause_line (BadName word) = codes "fault: BadName " ++ (word ++ codes "\n")
-cause_line (Absent name) = codes "fault: Absent " ++ (name ++ codes "\n")
-cause_line (TooLong name length limit) =
-    codes "fault: TooLong " ++ (name ++ (codes " " ++ (decimal length ++ (codes " " ++ (decimal limit ++ codes "\n")))))
-cause_line (BadLength name length) = codes "fault: BadLength " ++ (name ++ (codes " " ++ (decimal length ++ codes "\n")))
+cause_line (File name fault) = file_line name fault
+cause_line (Tile name fault) = tile_line name fault
 
 -- the cause that a fault of the program's stands for
 abbrev pub cause_of : Fault → Cause
 cause_of fault.Words = Words
 cause_of fault.NotYet = NotYet
 cause_of (fault.BadName word) = BadName word.now
-cause_of (fault.Absent name) = Absent name.now
-cause_of (fault.TooLong name length limit) = TooLong name.now length limit
-cause_of (fault.BadLength name length) = BadLength name.now length
+cause_of (fault.File name which) = File name.now which
+cause_of (fault.Tile name which) = Tile name.now which

@@ -1,4 +1,12 @@
+pub mod Actions
+pub mod Commands
+pub mod Courses
 pub mod Faults
+pub mod Frame
+pub mod Inputs
 pub mod Outcome
+pub mod Program
+pub mod Promise
 pub mod Reading
-pub mod Running
+pub mod Runs
+pub mod WholeFrame

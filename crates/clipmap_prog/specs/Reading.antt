@@ -1,83 +1,47 @@
--- What the words of `frame` and the files come to: a terrain, or a refusal.
-use Rattle.std.specs.Prelude.{◌≡◌, ℕ, ◌==◌, List, [], ◌∷◌, length, Option, Some, None, Result, Ok, Err, nat_lt, if◌then◌else◌, IsErrAnd, IsSomeAnd, MatchOption, ◌≤◌, ◌+◌, ⊤}
-use Rattle.std.specs.FinMap as map
-use Rattle.outer_shelf.specs.Outside.{Files}
-use Rattle.terrain_model.specs.Terrain.{Terrain}
-use Rattle.terrain_model.specs.Tile.{side_of_length, tile_terrain, void_count}
-use Rattle.terrain_model.specs.Name.{corner_of_word}
-use Rattle.terrain_model.specs.declared.Corner.{Corner}
-use Rattle.hgt_tiles.specs.TileView.{TileView}
-use Rattle.clipmap_words.specs.Names.{is_store}
-use Rattle.clipmap_prog.specs.Faults.{Cause, NotYet, BadName, Absent, TooLong, BadLength, cause_of}
+-- What the words of a command and the files come to, with the number of files that are fetched for it.
+use Rattle.std.specs.Prelude.{◌≡◌, ℕ, ◌+◌, List, [], ◌∷◌, Result, Ok, Err, ⊤}
+use Rattle.clipmap_prog.specs.Faults.{Cause, cause_of}
+use Rattle.clipmap_prog.specs.declared.halt.Halt.TheVariants as halt
 use Rattle.clipmap_prog.specs.declared.reading.Stop.{Stop}
 use Rattle.clipmap_prog.specs.declared.reading.Stop.TheVariants as stop
 
--- the most bytes that an HGT file may have
-abbrev pub hgt_limit : ℕ
-hgt_limit = 25934402
-
--- a refusal: how many files were fetched before it, and its cause
-pub record Refusal : Type 0 where
+-- a reading: how many files it fetches, and what it finds or why it is refused
+pub record Reading (A : Type 0) : Type 0 where
   pub fetches : ℕ
-  pub cause : Cause
+  pub found : Result A Cause
 
--- a refusal from the words, and one after the input was fetched
-abbrev pub unread : Cause → Result Terrain Refusal
-unread cause = Err (record { fetches = 0; cause = cause })
+-- a reading without a fetch, and one of a single fetch
+abbrev pub unfetched : {A : Type 0} → Result A Cause → Reading A
+unfetched found = record { fetches = 0; found = found }
 
-abbrev pub read : Cause → Result Terrain Refusal
-read cause = Err (record { fetches = 1; cause = cause })
+abbrev pub fetched : {A : Type 0} → Result A Cause → Reading A
+fetched found = record { fetches = 1; found = found }
 
--- a tile with voids isn't built yet
-abbrev pub whole_terrain : Terrain → Result Terrain Refusal
-whole_terrain terrain = if void_count terrain == 0 then Ok terrain else read NotYet
+-- a reading that goes on, where it isn't refused, after so many fetches
+abbrev pub goes_on : {A B : Type 0} → ℕ → Result A Cause → (A → Reading B) → Reading B
+goes_on fetches (Err cause) next = record { fetches = fetches; found = Err cause }
+goes_on fetches (Ok found) next = record { fetches = fetches + (next found).fetches; found = (next found).found }
 
--- the terrain of the bytes of a file, where their length gives a tile's side
-abbrev pub terrain_of_side : List ℕ → List ℕ → Option ℕ → Result Terrain Refusal
-terrain_of_side name bytes None = read (BadLength name (length bytes))
-terrain_of_side name bytes (Some side) = whole_terrain (tile_terrain bytes side)
+-- a reading, and then another of what it found
+abbrev pub and_then : {A B : Type 0} → Reading A → (A → Reading B) → Reading B
+and_then reading next = goes_on reading.fetches reading.found next
 
--- the terrain of a file, if it is there
-abbrev pub terrain_of_file : List ℕ → Option (List ℕ) → Result Terrain Refusal
-terrain_of_file name None = read (Absent name)
-terrain_of_file name (Some bytes) =
-    if nat_lt hgt_limit (length bytes) then read (TooLong name (length bytes) hgt_limit)
-    else terrain_of_side name bytes (side_of_length (length bytes))
+-- a reading of each of some items in its turn, up to the first that is refused
+abbrev pub each_of : {A B : Type 0} → (A → Reading B) → List A → Reading (List B)
+each_of read [] = unfetched (Ok [])
+each_of read (item ∷ items) = and_then (read item) (λ first. and_then (each_of read items) (λ rest. unfetched (Ok (first ∷ rest))))
 
--- the terrain of the file of a name, if it is an HGT tile's
-abbrev pub terrain_of_name : List ℕ → Files → Option Corner → Result Terrain Refusal
-terrain_of_name name files None = unread (BadName name)
-terrain_of_name name files (Some _) = terrain_of_file name (map.get files name)
+-- what the code's reading answered, against what is meant to be found: what it found stands for that, or it has that
+-- cause
+abbrev pub Finds : {A B : Type 0} → (A → B) → Result A Stop → Result B Cause → Type 0
+Finds stands_for (Ok found) meant = meant ≡ Ok (stands_for found)
+Finds stands_for (Err (stop.Refused fault)) meant = meant ≡ Err (cause_of fault)
+Finds stands_for (Err (stop.Halted _)) meant = ⊤
 
--- the terrain of the inputs: more than one of them and stores aren't built yet
-abbrev pub terrain_of_inputs : List (List ℕ) → Files → Result Terrain Refusal
-terrain_of_inputs (name ∷ []) files =
-    if is_store name then unread NotYet else terrain_of_name name files (corner_of_word name)
-terrain_of_inputs _ files = unread NotYet
-
--- the terrain that a frame is drawn over: more than one level isn't built yet
-abbrev pub terrain_of : ℕ → List (List ℕ) → Files → Result Terrain Refusal
-terrain_of levels inputs files = if nat_lt 1 levels then unread NotYet else terrain_of_inputs inputs files
-
--- how many files are fetched for a terrain or before a refusal
-abbrev pub fetches_for : Result Terrain Refusal → ℕ
-fetches_for (Ok _) = 1
-fetches_for (Err refusal) = refusal.fetches
-
--- what the reading of inputs answered, against what they come to
-abbrev pub ComesTo : Result TileView Stop → Result Terrain Refusal → Type 0
-ComesTo (Ok tile) wanted = wanted ≡ Ok tile.terrain
-ComesTo (Err (stop.Refused fault)) wanted = IsErrAnd wanted (λ refusal. refusal.cause ≡ cause_of fault)
-ComesTo (Err stop.ShelfFailed) wanted = ⊤
-ComesTo (Err stop.NoMemory) wanted = ⊤
-
--- this holds where the reading stopped since the shelf failed
-abbrev pub OnShelfFailed : {A : Type 0} → Result A Stop → Type 0 → Type 0
-OnShelfFailed (Ok _) P = ⊤
-OnShelfFailed (Err (stop.Refused _)) P = ⊤
-OnShelfFailed (Err stop.ShelfFailed) P = P
-OnShelfFailed (Err stop.NoMemory) P = ⊤
-
--- a count of calls that is told is at most so many higher than before
-abbrev pub CallsWithin : ℕ → Option ℕ → Option ℕ → Type 0
-CallsWithin most before now = MatchOption before (now ≡ None) (λ calls. IsSomeAnd now (λ later. later ≤ calls + most))
+-- this holds where the reading halted since the shelf failed; a reading calls no sink
+abbrev pub OnStop : {A : Type 0} → Result A Stop → Type 0 → Type 0
+OnStop (Ok _) shelf_rose = ⊤
+OnStop (Err (stop.Refused _)) shelf_rose = ⊤
+OnStop (Err (stop.Halted halt.ShelfFailed)) shelf_rose = shelf_rose
+OnStop (Err (stop.Halted halt.SinkFailed)) shelf_rose = ⊥
+OnStop (Err (stop.Halted halt.NoMemory)) shelf_rose = ⊤

@@ -1,6 +1,7 @@
 //! The frame of whole windows round a viewer: its text and the line that tells of it.
-ghost use Rattle.std.specs.Prelude.{◌≡◌, ◌≤◌, ℤ, pos, neg_ℤ, ◌≤ℤ◌, IfOk, length, string_bytes};
-ghost use Rattle.clipmap_prog.specs.Outcome.{told_line, whole_line, whole_mesh, whole_text};
+ghost use Rattle.std.specs.Prelude.{◌≡◌, IfOk, string_bytes};
+ghost use Rattle.plan_model.specs.Limits.{IsSize, IsViewed};
+ghost use Rattle.clipmap_prog.specs.WholeFrame.{told_line, whole_line, whole_text};
 
 use crate::level_mesh::level_mesh;
 use hgt_tiles::HgtTile;
@@ -32,14 +33,11 @@ fn frame_line(
 
 /// Draws frame 0 with the window whole round a viewer, over a tile.
 pub(crate) fn draw(alloc: Global, tile: &HgtTile, k: u8, x: i32, y: i32) -> Result<Drawn, NoMemory>
-    requires k_low { 4 ≤ k }
-    requires k_high { k ≤ 8 }
-    requires x_low { neg_ℤ (pos 4194304) ≤ℤ x }
-    requires x_high { x ≤ℤ pos 4194304 }
-    requires y_low { neg_ℤ (pos 4194304) ≤ℤ y }
-    requires y_high { y ≤ℤ pos 4194304 }
-    ensures text { IfOk result (λ drawn. drawn.text.items ≡ whole_text k x y tile.now.terrain) }
-    ensures line { IfOk result (λ drawn. string_bytes drawn.line ≡ whole_line k x y tile.now.terrain) }
+    requires k { IsSize k }
+    requires x { IsViewed x }
+    requires y { IsViewed y }
+    ensures text { IfOk result (λ drawn. drawn.text.items ≡ whole_text k 1 x y tile.now.terrain) }
+    ensures line { IfOk result (λ drawn. string_bytes drawn.line ≡ whole_line k 1 x y tile.now.terrain) }
 {
     let active = window(k, 0, x, y);
     let mesh = level_mesh(alloc, tile, &active)?;

@@ -1,8 +1,24 @@
-//! Why a command is refused.
+//! Why a command is refused. A fault of a lower crate is kept as that crate has it, and one function a crate writes
+//! its line.
 ghost use Rattle.std.specs.Prelude.{◌≡◌, IfOk, string_bytes};
-ghost use Rattle.clipmap_prog.specs.Faults.{cause_line, cause_of};
+ghost use Rattle.clipmap_prog.specs.Faults.{cause_line, cause_of, file_line, tile_line};
 
+use hgt_tiles::TileFault;
 use std::alloc::{AllocError, Global};
+
+/// Why a file can't be had.
+#[derive(Clone, Copy)]
+pub(crate) enum FileFault {
+    /// There is no file of that name.
+    Absent,
+    /// The file is longer than the limit.
+    TooLong {
+        /// How many bytes it has, or as many as were read before it was known to be too long.
+        length: u64,
+        /// The most bytes that it may have.
+        limit: u64,
+    },
+}
 
 /// Why a command is refused.
 #[derive(Clone, Copy)]
@@ -13,12 +29,32 @@ pub(crate) enum Fault<'a> {
     NotYet,
     /// The word is no name of an HGT tile.
     BadName(&'a str),
-    /// There is no file of that name.
-    Absent(&'a str),
-    /// The file of that name is longer than the limit, in bytes.
-    TooLong(&'a str, u64, u64),
-    /// The file of that name has a length, in bytes, that no HGT tile has.
-    BadLength(&'a str, u64),
+    /// The file of that name can't be had.
+    File(&'a str, FileFault),
+    /// The file of that name is no tile.
+    Tile(&'a str, TileFault),
+}
+
+/// The line of a file of that name that can't be had.
+fn file_line(alloc: Global, name: &str, fault: FileFault) -> Result<String, AllocError>
+    ensures line { IfOk result (λ line. string_bytes line ≡ file_line name.now fault) }
+{
+    match fault {
+        FileFault::Absent => format!(in alloc; "fault: Absent {name}\n"),
+        FileFault::TooLong { length, limit } => {
+            format!(in alloc; "fault: TooLong {name} {length} {limit}\n")
+        }
+    }
+}
+
+/// The line of a file of that name that is no tile. Want of memory is no refusal and has no line.
+fn tile_line(alloc: Global, name: &str, fault: TileFault) -> Result<String, AllocError>
+    ensures line { IfOk result (λ line. string_bytes line ≡ tile_line name.now fault) }
+{
+    match fault {
+        TileFault::BadLength { length } => format!(in alloc; "fault: BadLength {name} {length}\n"),
+        TileFault::NoMemory => Ok(String::new(alloc)),
+    }
 }
 
 /// The line that tells a user of the fault.
@@ -29,10 +65,7 @@ pub(crate) fn fault_line(alloc: Global, fault: Fault<'_>) -> Result<String, Allo
         Fault::Words => format!(in alloc; "fault: words\n"),
         Fault::NotYet => format!(in alloc; "fault: NotYet\n"),
         Fault::BadName(word) => format!(in alloc; "fault: BadName {word}\n"),
-        Fault::Absent(name) => format!(in alloc; "fault: Absent {name}\n"),
-        Fault::TooLong(name, length, limit) => {
-            format!(in alloc; "fault: TooLong {name} {length} {limit}\n")
-        }
-        Fault::BadLength(name, length) => format!(in alloc; "fault: BadLength {name} {length}\n"),
+        Fault::File(name, fault) => file_line(alloc, name, fault),
+        Fault::Tile(name, fault) => tile_line(alloc, name, fault),
     }
 }

@@ -2,7 +2,7 @@
 
 /// Why the run of a command ends before it is done. Nothing more is written then.
 #[derive(Clone, Copy)]
-pub(crate) enum Halt {
+pub enum Halt {
     /// A call of the shelf failed.
     ShelfFailed,
     /// A call of the sink failed.

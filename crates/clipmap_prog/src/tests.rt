@@ -1,7 +1,9 @@
 //! What no clause says: worked examples of the whole program, over a shelf and a sink in memory.
-use crate::clipmap::clipmap;
+use crate::{clipmap, run_program};
 use outer_shelf::{MemoryShelf, MemorySink, NoMemory, are_names_distinct};
 use std::alloc::{AllocError, Global};
+use std::io;
+use std::process::Termination;
 use std::thread::Threads;
 
 /// The 3 × 3 tile of the heights 1 to 9.
@@ -197,6 +199,27 @@ fn failing_calls(rt: HostRuntime) {
         assert_eq!(rt; ran.status, status);
         assert!(rt; ran.output.is_empty());
         assert_eq!(rt; ran.file.is_some(), stands);
+    }
+}
+
+/// Words that couldn't be read are no command, and words for which there was no memory end the program with 5.
+#[test]
+fn words_that_cannot_be_read(rt: HostRuntime) {
+    let alloc = rt.alloc();
+    let table = [
+        (io::ErrorKind::InvalidData, "1", "fault: words\n"),
+        (io::ErrorKind::OutOfMemory, "5", ""),
+    ];
+    for (kind, status, output) in table {
+        let mut shelf = shelf_of(alloc, TILE, &NINE, &[]).expect(&rt, "memory");
+        let mut sink = MemorySink::new(alloc, Vec::new(alloc));
+        let words = Err(io::Error::from(kind));
+        let ended = run_program(&rt, alloc, words, &mut shelf, &mut sink);
+        let code = ended.report(&rt);
+        let shown = format!(in alloc; "{code:?}").expect(&rt, "memory");
+        let want = format!(in alloc; "ExitCode(unix_exit_status({status}))").expect(&rt, "memory");
+        assert_eq!(rt; shown.as_str(), want.as_str());
+        assert_eq!(rt; sink.bytes(), output.as_bytes());
     }
 }
 

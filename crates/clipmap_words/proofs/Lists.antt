@@ -4,7 +4,7 @@ use Rattle.std.specs.List.{list_all, list_any}
 use Rattle.std.proofs.lemmas.List.{length-map}
 use Rattle.std.proofs.lemmas.List.Folds.{list_all-map}
 use Rattle.clipmap_words.specs.Names.{is_name, is_store, is_inputs}
-use Rattle.clipmap_words.specs.Commands.{frame_of}
+use Rattle.clipmap_words.specs.Frame.{frame_of}
 
 pub list_any-map : {A B : Type 0} (p : B → Bool) (f : A → B) (xs : List A) → list_any p (map f xs) ≡ list_any (λ x. p (f x)) xs
 list_any-map p f [] = refl
@@ -12,6 +12,7 @@ list_any-map p f (x ∷ xs) = ap (λ rest. p (f x) || rest) (list_any-map p f xs
 
 -- fewer than five words are no frame
 pub frame_of_few : (words : List (List ℕ)) → length words < 5 → frame_of words ≡ None
+unfolding frame_of
 frame_of_few [] few = refl
 frame_of_few (_ ∷ []) few = refl
 frame_of_few (_ ∷ _ ∷ []) few = refl

@@ -1,52 +1,24 @@
 -- Which command the words are.
-use Rattle.std.specs.Prelude.{ℕ, ◌≤◌, ℤ, pos, neg_ℤ, ◌≤ℤ◌, Option, Some, None, List, [], ◌∷◌, ◌&&◌, if◌then◌else◌, codes, option_and_then, map, string_bytes}
+use Rattle.std.specs.Prelude.{ℕ, Option, None, List, [], ◌∷◌, if◌then◌else◌, codes}
+use Rattle.std.specs.Option.{option_map}
 use Rattle.std.specs.Str.{bytes_eq}
-use Rattle.clipmap_words.specs.Names.{is_name, is_inputs}
-use Rattle.clipmap_words.specs.Numbers.{natural_of, coordinate_of}
+use Rattle.clipmap_words.specs.Frame.{FrameView, IsFrameInRange, frame_of, frame_view}
 use Rattle.clipmap_words.specs.declared.command.Command.{Command}
-use Rattle.clipmap_words.specs.declared.command.Command.TheVariants.{Frame}
+use Rattle.clipmap_words.specs.declared.command.Command.TheVariants as command
 
--- the words `frame K L X Y OUT INPUT+`, read
-pub record FrameWords : Type 0 where
-  pub k : ℕ
-  pub levels : ℕ
-  pub x : ℤ
-  pub y : ℤ
-  pub out : List ℕ
-  pub inputs : List (List ℕ)
+-- a command: each has a record of its words
+pub data CommandView : Type 0 where
+  Frame : FrameView → CommandView
 
--- the numbers of a `frame` are in range
-pub record IsInRange (frame : FrameWords) : Type 0 where
-  pub k_low : 4 ≤ frame.k
-  pub k_high : frame.k ≤ 8
-  pub levels_low : 1 ≤ frame.levels
-  pub levels_high : frame.levels ≤ 12
-  pub x_low : neg_ℤ (pos 4194304) ≤ℤ frame.x
-  pub x_high : frame.x ≤ℤ pos 4194304
-  pub y_low : neg_ℤ (pos 4194304) ≤ℤ frame.y
-  pub y_high : frame.y ≤ℤ pos 4194304
-
--- the names of a `frame` with these numbers, where they are names and inputs
-abbrev pub frame_with : ℕ → ℕ → ℤ → ℤ → List ℕ → List (List ℕ) → Option FrameWords
-frame_with k levels x y out inputs =
-    if is_name out && is_inputs inputs
-    then Some (record { k = k; levels = levels; x = x; y = y; out = out; inputs = inputs })
-    else None
-
--- the words after `frame`, where they are well spelled and in range
-abbrev pub frame_of : List (List ℕ) → Option FrameWords
-frame_of (k ∷ levels ∷ x ∷ y ∷ out ∷ inputs) =
-    option_and_then (λ k. option_and_then (λ levels. option_and_then (λ x. option_and_then (λ y.
-    frame_with k levels x y out inputs)
-    (coordinate_of y)) (coordinate_of x)) (natural_of 1 12 levels)) (natural_of 4 8 k)
-frame_of _ = None
-
--- the command that the words are
-abbrev pub command_of : List (List ℕ) → Option FrameWords
+-- the command that the words are: the first names it, and the others are its own
+abbrev pub command_of : List (List ℕ) → Option CommandView
 command_of [] = None
-command_of (name ∷ words) = if bytes_eq name (codes "frame") then frame_of words else None
+command_of (name ∷ words) = if bytes_eq name (codes "frame") then option_map Frame (frame_of words) else None
 
--- a command as its numbers, names and inputs
-abbrev pub words_of : Command → FrameWords
-words_of (Frame k levels x y out inputs) =
-    record { k = k; levels = levels; x = x; y = y; out = out.now; inputs = map string_bytes inputs.now }
+-- a command as contracts see it
+abbrev pub view_of : Command → CommandView
+view_of (command.Frame frame) = Frame (frame_view frame)
+
+-- the numbers of a command are in range
+abbrev pub IsInRange : CommandView → Type 0
+IsInRange (Frame frame) = IsFrameInRange frame

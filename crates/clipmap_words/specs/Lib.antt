@@ -1,3 +1,4 @@
 pub mod Commands
+pub mod Frame
 pub mod Names
 pub mod Numbers

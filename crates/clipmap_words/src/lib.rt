@@ -5,11 +5,13 @@
 #![tactic(auto)]
 
 mod command;
+mod frame;
 mod names;
 mod numbers;
 #[cfg(test)]
 mod tests;
 
 pub use command::{Command, read_words};
+pub use frame::FrameWords;
 pub use names::{INPUTS_LIMIT, NAME_LIMIT, is_store_name};
 pub use numbers::VIEWER_LIMIT;

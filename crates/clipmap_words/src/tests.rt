@@ -16,24 +16,14 @@ fn reads_frame(rt: HostRuntime) -> Result<(), Fail> {
     ] {
         words.push(String::from_str(rt.alloc(), word)?)?;
     }
-    let Some(
-        Command::Frame {
-            k,
-            levels,
-            x,
-            y,
-            out,
-            inputs,
-        },
-    ) = read_words(&words)
-    else {
+    let Some(Command::Frame(frame)) = read_words(&words) else {
         panic!(rt; "no command");
     };
-    assert_eq!(rt; (k, levels), (6, 1));
-    assert_eq!(rt; (x, y), (-600, 4_194_304));
-    assert_eq!(rt; out, "o.obj");
-    assert_eq!(rt; inputs.len(), 1);
-    assert_eq!(rt; inputs[0].as_str(), "a/N45E006.hgt");
+    assert_eq!(rt; (frame.k, frame.levels), (6, 1));
+    assert_eq!(rt; (frame.x, frame.y), (-600, 4_194_304));
+    assert_eq!(rt; frame.out, "o.obj");
+    assert_eq!(rt; frame.inputs.len(), 1);
+    assert_eq!(rt; frame.inputs[0].as_str(), "a/N45E006.hgt");
     Ok(())
 }
 

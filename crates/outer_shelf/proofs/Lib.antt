@@ -1,2 +1,3 @@
 pub mod FileMap
+pub mod Fronts
 pub mod Told

@@ -1,6 +1,7 @@
 -- What the calls of a shelf and of a sink answer, and what they leave.
 use Rattle.std.specs.Prelude.{◌≡◌, ℕ, ◌<◌, ◌≤◌, List, ◌++◌, length, take, vec_len, Option, None, Some, IsSomeAnd, option_map}
 use Rattle.std.specs.Ordering.{nat_cmp}
+use Rattle.std.specs.Io.KnownBytes.{Consumes}
 use Rattle.std.specs.Cmp.Lexicographic.{slice_cmp}
 use Rattle.std.specs.FinMap as map
 use Rattle.outer_shelf.specs.declared.traits.Fetched.{Fetched}
@@ -17,6 +18,18 @@ Files = map.FinMap (slice_cmp nat_cmp) (List ℕ)
 -- the files with these bytes at that name
 abbrev pub files_with : List ℕ → List ℕ → Files → Files
 files_with name bytes files = map.insert files name bytes
+
+-- what a shelf tells: its files and the number of its calls, where it tells them, and its count of faults
+pub record ShelfTold : Type 0 where
+  pub files : Option Files
+  pub calls : Option ℕ
+  pub faults : ℕ
+
+-- what a sink tells: the bytes written and the number of its calls, where it tells them, and its count of faults
+pub record SinkTold : Type 0 where
+  pub written : Option (List ℕ)
+  pub calls : Option ℕ
+  pub faults : ℕ
 
 -- two states of the files, where they are told, are alike at every other name than this one
 abbrev pub SameElsewhere : List ℕ → Option Files → Option Files → Type 0
@@ -60,3 +73,9 @@ OnWriteFailed sink_fault.NoMemory P = Unit {0}
 pub record AppendsFront (piece : List ℕ) (before now : Option (List ℕ)) : Type 0 where
   pub count : ℕ
   pub bytes : now ≡ option_map (λ written. written ++ take count piece) before
+
+-- what was read of a reader, where its bytes are told: a front of them of at most so many
+pub record TakesFront (most : ℕ) (before now : Option (List ℕ)) : Type 0 where
+  pub piece : List ℕ
+  pub few : length piece ≤ most
+  pub taken : Consumes before now piece

@@ -199,11 +199,10 @@ impl MemoryShelf {
 }
 
 impl Shelf for MemoryShelf {
-    ghost files = { λ s. Some s.files };
+    ghost told = { λ s. record { files = Some s.files; calls = Some s.calls; faults = s.faults } };
 
-    ghost calls = { λ s. Some s.calls };
-
-    ghost faults = { λ s. s.faults };
+    // A refused put changes nothing.
+    ghost leaves = { λ _ _ before now. now ≡ before };
 
     fn fetch(&mut self, alloc: Global, name: &str, limit: u64) -> Fetched
         ensures answer { Fetches (map.get self.old.files name.now) limit result }
@@ -289,11 +288,7 @@ impl MemorySink {
 }
 
 impl Sink for MemorySink {
-    ghost written = { λ s. Some s.written };
-
-    ghost calls = { λ s. Some s.calls };
-
-    ghost faults = { λ s. s.faults };
+    ghost told = { λ s. record { written = Some s.written; calls = Some s.calls; faults = s.faults } };
 
     fn write(&mut self, piece: &[u8]) -> Result<(), SinkFault>
         ensures ok { OnOk result (self.new ≡ sink_called piece.now self.old) }

@@ -58,11 +58,7 @@ fn write_whole<R: Print>(rt: &R, bytes: &[u8]) -> io::Result<()> {
 }
 
 impl<R: Print> Sink for StreamSink<'_, R> {
-    ghost written = { λ _. None };
-
-    ghost calls = { λ _. None };
-
-    ghost faults = { λ s. s };
+    ghost told = { λ s. record { written = None; calls = None; faults = s } };
 
     /// An output that takes nothing of a piece that isn't empty has failed.
     fn write(&mut self, piece: &[u8]) -> Result<(), SinkFault> {

@@ -6,6 +6,8 @@ use crate::{
 use std::alloc::{AllocError, Global};
 use std::cell::Cell;
 use std::fmt::Display;
+use std::fs::Permissions;
+use std::os::unix::fs::PermissionsExt;
 use std::{fs, io};
 
 // What a fetch answered, as a short text: the bytes found in decimal, or the name of the answer.
@@ -96,7 +98,10 @@ fn folder_shelf_reads_and_replaces(rt: HostRuntime) {
     assert!(rt; fs::create_dir(&rt, folder).is_ok());
     let file = "outer_shelf_test_folder/x.hgt";
     assert!(rt; shelf.put(file, &[1, 2, 3]).is_ok());
+    assert!(rt; fs::set_permissions(&rt, file, Permissions::from_mode(0o640)).is_ok());
     assert!(rt; shelf.put(file, &[4, 5]).is_ok());
+    let kept = fs::metadata(&rt, file).expect(&rt, "a file").permissions();
+    assert_eq!(rt; kept.mode() % 0o1000, 0o640);
     assert!(rt; shelf.put(folder, &[6]) == Err(PutFault::Failed));
     let table = [
         (file, 2, "[4, 5]"),
@@ -107,6 +112,7 @@ fn folder_shelf_reads_and_replaces(rt: HostRuntime) {
         ("outer_shelf_test_folder/x.hgt.0.part", 9, "absent"),
         ("outer_shelf_test_folder/x.hgt/z", 9, "failed"),
         (folder, 9, "failed"),
+        ("/dev/null", 9, "failed"),
     ];
     for (name, limit, want) in table {
         let answer = shelf.fetch(alloc, name, limit);

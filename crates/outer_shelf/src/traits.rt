@@ -1,8 +1,8 @@
 // The two traits of the outside, and what their calls answer.
-ghost use Rattle.std.specs.Prelude.{◌≡◌, ℕ, ◌++◌, ◌≤◌, List, Option, IfSome, IfErr, OnOk, OnErr, option_map};
+ghost use Rattle.std.specs.Prelude.{◌≡◌, ℕ, ◌++◌, ◌≤◌, List, Option, IfSome, IfErr, OnOk, OnErr, option_map, ⊤};
 ghost use Rattle.std.specs.FinMap as map;
 ghost use Rattle.outer_shelf.specs.Counts.{Rose, one_more};
-ghost use Rattle.outer_shelf.specs.Outside.{AppendsFront, Fetches, Files, KeepsLimit};
+ghost use Rattle.outer_shelf.specs.Outside.{AppendsFront, Fetches, Files, KeepsLimit, ShelfTold, SinkTold};
 ghost use Rattle.outer_shelf.specs.Outside.{OnFetchFailed, OnPutFailed, OnWriteFailed, SameElsewhere, files_with};
 
 use std::alloc::Global;
@@ -47,56 +47,52 @@ pub enum SinkFault {
 
 /// A place of named files.
 ///
-/// A shelf means three things: its files, where it tells them; the number of its calls, where it
-/// tells that; and a count of faults, which never falls. A call answers `Failed` only where that
-/// count rose, or stands at the last value of a `u64`.
+/// A shelf tells three things: its files and the number of its calls, each where it tells it, and a
+/// count of faults, which never falls. A call answers `Failed` only where that count rose, or stands
+/// at the last value of a `u64`. A shelf may also say what a refused put of it leaves of the files.
 pub trait Shelf {
-    ghost files: { Self → Option Files };
+    ghost told: { Self → ShelfTold };
 
-    ghost calls: { Self → Option ℕ };
-
-    ghost faults: { Self → ℕ };
+    // What a refused put of these bytes under that name may leave, of the files before and after.
+    ghost leaves: { List ℕ → List ℕ → Option Files → Option Files → Type 0 } = { λ _ _ _ _. ⊤ };
 
     /// Fetches the file of that name, if it has at most `limit` bytes. The files stay as they are.
     fn fetch(&mut self, alloc: Global, name: &str, limit: u64) -> Fetched
-        ensures answer { IfSome (files self.old) (λ m. Fetches (map.get m name.now) limit result) }
+        ensures answer { IfSome (told self.old).files (λ m. Fetches (map.get m name.now) limit result) }
         ensures in_limit { KeepsLimit limit result }
-        ensures failed { OnFetchFailed result (Rose (faults self.old) (faults self.new)) }
-        ensures files_stay { files self.new ≡ files self.old }
-        ensures counted { calls self.new ≡ option_map one_more (calls self.old) }
-        ensures faults_stay { faults self.old ≤ faults self.new };
+        ensures failed { OnFetchFailed result (Rose (told self.old).faults (told self.new).faults) }
+        ensures files_stay { (told self.new).files ≡ (told self.old).files }
+        ensures counted { (told self.new).calls ≡ option_map one_more (told self.old).calls }
+        ensures faults_stay { (told self.old).faults ≤ (told self.new).faults };
 
     /// Puts these bytes under that name, in place of what was there. After a refusal nothing is
     /// said of that name, and every other name is as it was.
     fn put(&mut self, name: &str, bytes: &[u8]) -> Result<(), PutFault>
-        ensures ok { OnOk result (files self.new
-            ≡ option_map (files_with name.now bytes.now) (files self.old)) }
-        ensures refused { OnErr result (SameElsewhere name.now (files self.old) (files self.new)) }
+        ensures ok { OnOk result ((told self.new).files
+            ≡ option_map (files_with name.now bytes.now) (told self.old).files) }
+        ensures refused { OnErr result (SameElsewhere name.now (told self.old).files (told self.new).files) }
+        ensures left { OnErr result (leaves name.now bytes.now (told self.old).files (told self.new).files) }
         ensures failed { IfErr result (λ fault. OnPutFailed fault
-            (Rose (faults self.old) (faults self.new))) }
-        ensures counted { calls self.new ≡ option_map one_more (calls self.old) }
-        ensures faults_stay { faults self.old ≤ faults self.new };
+            (Rose (told self.old).faults (told self.new).faults)) }
+        ensures counted { (told self.new).calls ≡ option_map one_more (told self.old).calls }
+        ensures faults_stay { (told self.old).faults ≤ (told self.new).faults };
 }
 
 /// A place that takes bytes one piece after another.
 ///
-/// A sink means three things: the bytes written, where it tells them; the number of its calls, where
-/// it tells that; and a count of faults, which never falls. A call answers `Failed` only where that
-/// count rose, or stands at the last value of a `u64`.
+/// A sink tells three things: the bytes written and the number of its calls, each where it tells it,
+/// and a count of faults, which never falls. A call answers `Failed` only where that count rose, or
+/// stands at the last value of a `u64`.
 pub trait Sink {
-    ghost written: { Self → Option (List ℕ) };
-
-    ghost calls: { Self → Option ℕ };
-
-    ghost faults: { Self → ℕ };
+    ghost told: { Self → SinkTold };
 
     /// Appends the piece. After a refusal a front of the piece is appended, which may be empty.
     fn write(&mut self, piece: &[u8]) -> Result<(), SinkFault>
-        ensures ok { OnOk result (written self.new
-            ≡ option_map (λ bytes. bytes ++ piece.now) (written self.old)) }
-        ensures refused { OnErr result (AppendsFront piece.now (written self.old) (written self.new)) }
+        ensures ok { OnOk result ((told self.new).written
+            ≡ option_map (λ bytes. bytes ++ piece.now) (told self.old).written) }
+        ensures refused { OnErr result (AppendsFront piece.now (told self.old).written (told self.new).written) }
         ensures failed { IfErr result (λ fault. OnWriteFailed fault
-            (Rose (faults self.old) (faults self.new))) }
-        ensures counted { calls self.new ≡ option_map one_more (calls self.old) }
-        ensures faults_stay { faults self.old ≤ faults self.new };
+            (Rose (told self.old).faults (told self.new).faults)) }
+        ensures counted { (told self.new).calls ≡ option_map one_more (told self.old).calls }
+        ensures faults_stay { (told self.old).faults ≤ (told self.new).faults };
 }

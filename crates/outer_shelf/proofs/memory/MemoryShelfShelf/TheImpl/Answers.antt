@@ -26,6 +26,7 @@ put-tells c =
     either_way c.result (λ e. ap (λ s. s.faults) e) (λ e. ap (λ s. s.faults) e) c.ensures.ok c.ensures.refused in
     record {
       ok = on_ok c.result (λ e. ap (λ s. Some s.files) e) c.ensures.ok;
+      left = on_err c.result (λ e. ap (λ s. Some s.files) e) c.ensures.refused;
       refused = on_err c.result (λ e. ap (λ s. Some (finite.remove s.files c.args.name.now)) e) c.ensures.refused;
       failed = put_failed c.result c.ensures.fails.0 (rose faults);
       counted =

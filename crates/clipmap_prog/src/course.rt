@@ -1,0 +1,65 @@
+//! The run of a course, once the words and the files have come to one.
+ghost use Rattle.std.specs.Prelude.{◌≡◌, ◌∷◌, [], string_bytes};
+ghost use Rattle.clipmap_prog.specs.Actions.{Put, Write};
+ghost use Rattle.clipmap_prog.specs.Courses.{IsCourseInRange, course_actions, course_view};
+ghost use Rattle.clipmap_prog.specs.Runs.{HadReason, Ran};
+
+use crate::draw::{Drawn, draw};
+use crate::halt::Halt;
+use crate::output::{put, write};
+use hgt_tiles::HgtTile;
+use outer_shelf::{Shelf, Sink};
+use std::alloc::Global;
+
+/// What is to be done over any terrain.
+#[derive(Clone, Copy)]
+pub(crate) enum Course {
+    /// One frame of whole windows.
+    Frame {
+        /// The size of the grids: 2^k − 1 vertices a side; from 4 to 8.
+        k: u8,
+        /// The viewer's column, in samples.
+        x: i32,
+        /// The viewer's row, in samples.
+        y: i32,
+    },
+}
+
+/// Puts the text of a frame and then writes its line.
+fn write_frame<S: Shelf, K: Sink>(
+    shelf: &mut S,
+    out: &mut K,
+    name: &str,
+    drawn: &Drawn,
+) -> Result<(), Halt>
+    ensures ran { Ran S.leaves 0 (Put name.now drawn.now.text.items ∷ Write (string_bytes drawn.now.line) ∷ []) result
+        (S.told shelf.old) (S.told shelf.new) (K.told out.old) (K.told out.new) }
+    ensures reason { HadReason result (S.told shelf.old) (S.told shelf.new) (K.told out.old) (K.told out.new) }
+{
+    match put(shelf, name, drawn.text.as_slice()) {
+        Ok(()) => write(out, drawn.line.as_bytes()),
+        Err(halt) => Err(halt),
+    }
+}
+
+/// Does the course over the terrain of a tile with one level, under a name.
+pub(crate) fn run_course<S: Shelf, K: Sink>(
+    alloc: Global,
+    tile: &HgtTile,
+    course: &Course,
+    name: &str,
+    shelf: &mut S,
+    out: &mut K,
+) -> Result<(), Halt>
+    requires in_range { IsCourseInRange (course_view course.now) }
+    ensures ran { Ran S.leaves 0 (course_actions (course_view course.now) tile.now.terrain 1 name.now) result
+        (S.told shelf.old) (S.told shelf.new) (K.told out.old) (K.told out.new) }
+    ensures reason { HadReason result (S.told shelf.old) (S.told shelf.new) (K.told out.old) (K.told out.new) }
+{
+    match *course {
+        Course::Frame { k, x, y } => match draw(alloc, tile, k, x, y) {
+            Ok(drawn) => write_frame(shelf, out, name, &drawn),
+            Err(_) => Err(Halt::NoMemory),
+        },
+    }
+}

@@ -1,0 +1,69 @@
+//! The command `frame`.
+ghost use Rattle.std.specs.Prelude.{◌≡◌, ◌≤◌, ◌⊎◌, IfOk, IfSome};
+ghost use Rattle.outer_shelf.specs.Counts.{Rose};
+ghost use Rattle.clipmap_words.specs.Frame.{IsFrameInRange, frame_view};
+ghost use Rattle.clipmap_prog.specs.Frame.{frame_outcome, frame_over, frame_reading};
+ghost use Rattle.clipmap_prog.specs.Inputs.{one_tile};
+ghost use Rattle.clipmap_prog.specs.Promise.{Runs};
+ghost use Rattle.clipmap_prog.specs.Reading.{Finds, OnStop};
+ghost use Rattle.clipmap_prog.specs.Runs.{CallsWithin, HadReason};
+
+use crate::course::{Course, run_course};
+use crate::fault::Fault;
+use crate::halt::Halt;
+use crate::inputs::read_inputs;
+use crate::output::{ended, write_fault};
+use crate::reading::Stop;
+use clipmap_words::FrameWords;
+use hgt_tiles::HgtTile;
+use outer_shelf::{Shelf, Sink};
+use std::alloc::Global;
+
+/// The tile that a frame is drawn over. One level is built.
+#[tactic(auto, unfolding(crate::specs::Frame::frame_reading))]
+fn read_frame<'a, S: Shelf>(
+    alloc: Global,
+    shelf: &mut S,
+    frame: &FrameWords<'a>,
+) -> Result<HgtTile, Stop<'a>>
+    ensures found { IfSome (S.told shelf.old).files
+        (λ files. Finds (λ tile. frame_over (frame_view frame.now) (one_tile tile)) result
+        (frame_reading (frame_view frame.now) files).found) }
+    ensures one_level { IfOk result (λ _. frame.now.levels ≤ 1) }
+    ensures calls { IfSome (S.told shelf.old).files
+        (λ files. CallsWithin (frame_reading (frame_view frame.now) files).fetches
+        (S.told shelf.old).calls (S.told shelf.new).calls) }
+    ensures reason { OnStop result (Rose (S.told shelf.old).faults (S.told shelf.new).faults) }
+    ensures files_stay { (S.told shelf.new).files ≡ (S.told shelf.old).files }
+    ensures faults_stay { (S.told shelf.old).faults ≤ (S.told shelf.new).faults }
+{
+    if frame.levels > 1 {
+        return Err(Stop::Refused(Fault::NotYet));
+    }
+    read_inputs(alloc, shelf, frame.inputs)
+}
+
+/// Runs a `frame`. `Ok` is the status: 0 where it is done, and 2 where it is refused and the line of its
+/// fault is written.
+pub(crate) fn run_frame<S: Shelf, K: Sink>(
+    alloc: Global,
+    frame: &FrameWords<'_>,
+    shelf: &mut S,
+    out: &mut K,
+) -> Result<u8, Halt>
+    requires in_range { IsFrameInRange (frame_view frame.now) }
+    ensures runs { Runs S.leaves (frame_outcome (frame_view frame.now)) result
+        (S.told shelf.old) (S.told shelf.new) (K.told out.old) (K.told out.new) }
+    ensures status { IfOk result (λ status. (status ≡ 0) ⊎ (status ≡ 2)) }
+    ensures reason { HadReason result (S.told shelf.old) (S.told shelf.new) (K.told out.old) (K.told out.new) }
+{
+    match read_frame(alloc, shelf, frame) {
+        Ok(tile) => {
+            let FrameWords { k, x, y, .. } = *frame;
+            let course = Course::Frame { k, x, y };
+            ended(0, run_course(alloc, &tile, &course, frame.out, shelf, out))
+        }
+        Err(Stop::Refused(fault)) => ended(2, write_fault(alloc, out, fault)),
+        Err(Stop::Halted(halt)) => Err(halt),
+    }
+}

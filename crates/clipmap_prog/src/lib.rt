@@ -1,0 +1,23 @@
+//! The top call of the terrain engine: what the words of a command line do over a shelf of files and an output.
+#![tactic(auto)]
+
+mod bounds;
+mod course;
+mod draw;
+mod fault;
+mod frame;
+mod halt;
+mod inputs;
+mod level_mesh;
+mod output;
+mod program;
+mod reading;
+mod run;
+#[cfg(test)]
+mod tests;
+mod top;
+
+pub use halt::Halt;
+pub use inputs::HGT_LIMIT;
+pub use program::{Ended, run_main, run_program};
+pub use top::clipmap;

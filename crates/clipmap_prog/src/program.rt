@@ -1,0 +1,82 @@
+//! The program: the words of its command line, read or not, to its exit status.
+ghost use Rattle.std.specs.Prelude.{◌≡◌};
+ghost use Rattle.std.specs.Process.{exit_status};
+ghost use Rattle.clipmap_prog.specs.Commands.{outcome};
+ghost use Rattle.clipmap_prog.specs.Program.{words_told};
+ghost use Rattle.clipmap_prog.specs.Promise.{HasCauses, IsComplete, ShelfCallsWithin, SinkCallsWithin, Stands};
+
+use crate::top::clipmap;
+use outer_shelf::{FolderShelf, Shelf, Sink, StreamSink};
+use std::alloc::Global;
+use std::marker::Model;
+use std::process::{ExitCode, Termination};
+use std::rt::{Env, Files};
+use std::thread::Threads;
+use std::{env, io};
+
+/// That the program ended, with its exit status. It can't be dropped: `main` has to return it.
+pub struct Ended {
+    status: u8,
+}
+
+impl Model for Ended {
+    ghost use Rattle.std.specs.Prelude.{ℕ};
+
+    ghost Value = { ℕ };
+
+    ghost view = { λ e. e.status };
+}
+
+impl Termination for Ended {
+    fn report<R: Eprint>(self, _rt: &R) -> ExitCode
+        ensures { exit_status result ≡ self }
+    {
+        let Ended { status } = self;
+        ExitCode::from(status)
+    }
+}
+
+/// Runs the words of a command line, and ends with the status of [`clipmap`](crate::clipmap).
+///
+/// Words that couldn't be read, as one that isn't UTF-8, are no command. Where there was no memory for them the
+/// status is 5.
+pub fn run_program<R: Threads + Sync, S: Shelf, K: Sink>(
+    rt: &R,
+    alloc: Global,
+    words: io::Result<Vec<String>>,
+    shelf: &mut S,
+    out: &mut K,
+) -> Ended
+    ensures stands_where_told { Stands S.leaves (outcome (words_told words)) result
+        (S.told shelf.old) (S.told shelf.new) (K.told out.old) (K.told out.new) }
+    ensures causes { HasCauses (words_told words) result
+        (S.told shelf.old) (S.told shelf.new) (K.told out.old) (K.told out.new) }
+    ensures complete_where_told { IsComplete (outcome (words_told words)) result
+        (S.told shelf.old) (S.told shelf.new) (K.told out.old) (K.told out.new) }
+    ensures shelf_calls_where_told { ShelfCallsWithin (outcome (words_told words)) (S.told shelf.old) (S.told shelf.new) }
+    ensures sink_calls_where_told { SinkCallsWithin (outcome (words_told words))
+        (S.told shelf.old) (K.told out.old) (K.told out.new) }
+{
+    let status = match words {
+        Ok(words) => clipmap(rt, alloc, words.as_slice(), shelf, out),
+        Err(error) if error.kind() == io::ErrorKind::OutOfMemory => 5,
+        Err(_) => clipmap(rt, alloc, &[], shelf, out),
+    };
+    Ended { status }
+}
+
+/// The words after the program's name.
+fn command_words<R: Env + AllocGlobal>(rt: &R) -> io::Result<Vec<String>> {
+    let mut words = Vec::new(rt.alloc());
+    for word in env::args(rt)?.skip(1) {
+        words.push(word)?;
+    }
+    Ok(words)
+}
+
+/// Runs the program over its command line, the working folder and standard output.
+pub fn run_main<R: Env + Files + Print + Threads + Sync + AllocGlobal>(rt: &R) -> Ended {
+    let mut shelf = FolderShelf::new(rt);
+    let mut out = StreamSink::new(rt);
+    run_program(rt, rt.alloc(), command_words(rt), &mut shelf, &mut out)
+}

@@ -1,0 +1,25 @@
+-- The weight is that of the definition, and so it is small.
+use Rattle.std.proofs.Common.{◌≡◌, ◌/◌, ℤ, pos, ◌≤ℤ◌, subst, sym, w32, arith}
+use Rattle.std.proofs.lemmas.Int.{ints, to_z-of_z}
+use Rattle.plan_model.specs.Window.{blend_width}
+use Rattle.transition.specs.Weights.{coarser_weight}
+use Rattle.transition.proofs.Weights.{coarser_fits, weight_sfits, product_is}
+use Rattle.transition.proofs.blend.coarser_weight.Goals as goal
+use mir.Val.{to_z, of_z}
+
+pub returns-clause-value : goal.returns-clause-value
+unfolding coarser_weight
+returns-clause-value c =
+    let scale : to_z w32 (of_z w32 c.coarser_scale.result) ≡ pos (16 / blend_width c.args.k) = omega (arith, ints) in
+    product_is _ _ c.args.share (pos (16 / blend_width c.args.k)) (to_z-of_z w32 c.args.share c.ranges.share) scale
+    (weight_sfits _ (coarser_fits c.args.k c.args.share c.requires.k.low c.requires.k.high c.requires.some c.requires.within))
+
+pub returns-clause-positive : goal.returns-clause-positive
+returns-clause-positive c =
+    subst (λ (z : ℤ). pos 0 ≤ℤ z) (sym (returns-clause-value c))
+    (coarser_fits c.args.k c.args.share c.requires.k.low c.requires.k.high c.requires.some c.requires.within).positive
+
+pub returns-clause-few : goal.returns-clause-few
+returns-clause-few c =
+    subst (λ (z : ℤ). z ≤ℤ pos 32) (sym (returns-clause-value c))
+    (coarser_fits c.args.k c.args.share c.requires.k.low c.requires.k.high c.requires.some c.requires.within).few

@@ -1,0 +1,19 @@
+-- The scales, one by one.
+use Rattle.std.proofs.Common.{refl, arith}
+use Rattle.transition.proofs.Weights.{own_scale_is}
+use Rattle.transition.proofs.blend.own_scale.Goals as goal
+
+pub returns-in-4-clause-value : goal.returns-in-4-clause-value
+returns-in-4-clause-value c = own_scale_is c.args.k 4 32 (omega arith) refl
+
+pub returns-in-5-clause-value : goal.returns-in-5-clause-value
+returns-in-5-clause-value c = own_scale_is c.args.k 5 16 (omega arith) refl
+
+pub returns-in-6-clause-value : goal.returns-in-6-clause-value
+returns-in-6-clause-value c = own_scale_is c.args.k 6 8 (omega arith) refl
+
+pub returns-in-7-clause-value : goal.returns-in-7-clause-value
+returns-in-7-clause-value c = own_scale_is c.args.k 7 4 (omega arith) refl
+
+pub returns-in_default-clause-value : goal.returns-in_default-clause-value
+returns-in_default-clause-value c = own_scale_is c.args.k 8 2 (omega arith) refl
