@@ -1,2 +1,3 @@
 pub mod Squares
 pub mod Boxes
+pub mod Faces

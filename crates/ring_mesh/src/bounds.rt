@@ -63,17 +63,17 @@ fn widened_by(mut bounds: Bounds, vertices: &[Vertex], places: &[u32]) -> Bounds
 fn first_box(vertices: &[Vertex], triangles: &[[u32; 3]]) -> Bounds
     ensures { result ≡ first_of (vertices_of vertices.now triangles.now) }
 {
-    match triangles.first() {
-        None => Bounds {
+    if triangles.is_empty() {
+        return Bounds {
             x0: 0,
             x1: 0,
             z0: 0,
             z1: 0,
             low: 0,
             high: 0,
-        },
-        Some(triangle) => point(&vertex_named(vertices, triangle[0])),
+        };
     }
+    point(&vertex_named(vertices, triangles[0][0]))
 }
 
 /// The least and greatest column, row and height of the vertices of some triangles, all 0 where there is

@@ -2,8 +2,11 @@
 #![tactic(auto)]
 
 mod bounds;
+mod faces;
 mod places;
 mod sizes;
 mod squares;
 
+pub use bounds::bounds_of;
+pub use faces::Faces;
 pub use places::{corner, next_ring, no_ring};
