@@ -25,11 +25,7 @@ pub struct Header {
 }
 
 // Appends the line of each level.
-fn append_levels(
-    text: &mut Vec<u8>,
-    digits: &mut Buffer,
-    actives: &Actives,
-) -> Result<(), NoMemory>
+fn append_levels(text: &mut Vec<u8>, digits: &mut Buffer, actives: &Actives) -> Result<(), NoMemory>
     ensures { OnOk result (text.new.items ≡ text.old.items ++ level_lines 0 actives.now) }
 {
     for level in 0..actives.levels() {
