@@ -1,20 +1,42 @@
--- The text of the parts of a frame that are kept, and which parts a half-space drops.
-use Rattle.std.specs.Prelude.{ℕ, Bool, ◌&&◌, ◌==◌, ℤ, pos, ◌+ℤ◌, ◌*ℤ◌, List, [], ◌∷◌, ◌++◌, length, map, filter, count_by, flat_map, codes, decimal, int_lt, slice_index_or, if◌then◌else◌}
+-- The text of the parts of a frame that a view keeps. A view is a list of half-spaces, at most six.
+use Rattle.std.specs.Prelude.{ℕ, Bool, not, ◌&&◌, ◌==◌, ℤ, pos, ◌+ℤ◌, ◌*ℤ◌, List, ◌++◌, length, map, filter, flat_map, codes, decimal, int_lt, slice_index_or}
 use Rattle.std.specs.List.{range_with_len, list_any}
 use Rattle.clip_regions.specs.declared.region.Region.{Region}
 use Rattle.mesh_model.specs.declared.shapes.Vertex.{Vertex}
 use Rattle.mesh_model.specs.declared.shapes.Bounds.{Bounds}
 use Rattle.mesh_model.specs.declared.shapes.Part.{Part}
+use Rattle.mesh_model.specs.declared.shapes.HalfSpace.{HalfSpace}
 use Rattle.mesh_model.specs.Mesh.{MeshLists}
 use Rattle.mesh_model.specs.Conditions.{triangles_of_part}
 use Rattle.mesh_model.specs.Text.{head_text, vertex_line, triangle_line}
 
--- the triangles of the parts whose flag says that they are kept
-abbrev pub kept_triangles : List (List ℕ) → List Part → List Bool → List (List ℕ)
-kept_triangles triangles [] keep = []
-kept_triangles triangles (part ∷ parts) [] = []
-kept_triangles triangles (part ∷ parts) (kept ∷ keep) =
-    (if kept then triangles_of_part triangles part else []) ++ kept_triangles triangles parts keep
+-- 32 times a x + b h + c z + d, with the height in thirty-seconds of a metre: it is negative outside the half-space
+unfoldable pub corner_value : HalfSpace → ℤ → ℤ → ℤ → ℤ
+corner_value space x height z =
+    pos 32 *ℤ (space.a *ℤ x) +ℤ space.b *ℤ height +ℤ pos 32 *ℤ (space.c *ℤ z) +ℤ pos 32 *ℤ space.d
+
+-- the point lies outside the half-space
+unfoldable pub is_point_outside : HalfSpace → ℤ → ℤ → ℤ → Bool
+is_point_outside space x height z = int_lt (corner_value space x height z) (pos 0)
+
+-- all eight corners of the box lie outside the half-space
+unfoldable pub is_box_outside : HalfSpace → Bounds → Bool
+is_box_outside space box =
+    let out = is_point_outside space in
+    ((out box.x0 box.low box.z0 && out box.x1 box.low box.z0) && (out box.x0 box.high box.z0 && out box.x1 box.high box.z0))
+    && ((out box.x0 box.low box.z1 && out box.x1 box.low box.z1) && (out box.x0 box.high box.z1 && out box.x1 box.high box.z1))
+
+-- the box of the part lies outside no half-space of the view
+unfoldable pub is_kept : List HalfSpace → Part → Bool
+is_kept view part = not (list_any (λ space. is_box_outside space part.bounds) view)
+
+-- the parts that the view keeps, in their order
+abbrev pub kept_parts : List HalfSpace → List Part → List Part
+kept_parts view parts = filter (is_kept view) parts
+
+-- the triangles of some parts of a mesh
+abbrev pub triangles_of_parts : List (List ℕ) → List Part → List (List ℕ)
+triangles_of_parts triangles parts = flat_map (triangles_of_part triangles) parts
 
 -- does one of the triangles have the vertex at this place?
 unfoldable pub is_named : List (List ℕ) → ℕ → Bool
@@ -32,24 +54,16 @@ new_place triangles place = length (named_places triangles place)
 unfoldable pub kept_line : ℕ → ℕ → List ℕ
 kept_line kept whole = codes "# kept " ++ decimal kept ++ codes " of " ++ decimal whole ++ codes "\n"
 
--- the text of a frame with the triangles of the kept parts in their order, and only the vertices that these have
-unfoldable pub seen_text : ℕ → ℤ → ℤ → List Region → MeshLists → List Bool → List ℕ
-seen_text number x y actives lists keep =
-    let triangles = kept_triangles lists.triangles lists.parts keep in
+-- the text of a frame with these of its parts: their triangles in their order, and only the vertices that these have
+unfoldable pub parts_text : ℕ → ℤ → ℤ → List Region → MeshLists → List Part → List ℕ
+parts_text number x y actives lists parts =
+    let triangles = triangles_of_parts lists.triangles parts in
     let none : Vertex = record { x = pos 0; z = pos 0; height = pos 0 } in
     head_text number x y actives
-    ++ kept_line (count_by (λ kept. kept) keep) (length lists.parts)
+    ++ kept_line (length parts) (length lists.parts)
     ++ flat_map (λ place. vertex_line (slice_index_or lists.vertices place none)) (named_places triangles (length lists.vertices))
     ++ flat_map (λ triangle. triangle_line (map (new_place triangles) triangle)) triangles
 
--- the value, at a corner of a box, that is negative outside the half-space a x + b h + c y + d, with heights in metres
-unfoldable pub corner_value : ℤ → ℤ → ℤ → ℤ → ℤ → ℤ → ℤ → ℤ
-corner_value a b c d x height z =
-    pos 32 *ℤ a *ℤ x +ℤ b *ℤ height +ℤ pos 32 *ℤ c *ℤ z +ℤ pos 32 *ℤ d
-
--- all eight corners of the box lie outside the half-space
-unfoldable pub is_outside : ℤ → ℤ → ℤ → ℤ → Bounds → Bool
-is_outside a b c d box =
-    let out = λ (x height z : ℤ). int_lt (corner_value a b c d x height z) (pos 0) in
-    ((out box.x0 box.low box.z0 && out box.x1 box.low box.z0) && (out box.x0 box.high box.z0 && out box.x1 box.high box.z0))
-    && ((out box.x0 box.low box.z1 && out box.x1 box.low box.z1) && (out box.x0 box.high box.z1 && out box.x1 box.high box.z1))
+-- the text of a frame with the parts that a view keeps
+abbrev pub seen_text : ℕ → ℤ → ℤ → List Region → MeshLists → List HalfSpace → List ℕ
+seen_text number x y actives lists view = parts_text number x y actives lists (kept_parts view lists.parts)

@@ -11,4 +11,4 @@ pub use laws::{
     box_holds, drawn_mesh, nested_counts, nested_names, one_level_counts, one_level_mesh,
     parts_of_mesh, vertices_apart,
 };
-pub use shapes::{Bounds, Part, PartKind, Vertex};
+pub use shapes::{Bounds, HalfSpace, Part, PartKind, Vertex};

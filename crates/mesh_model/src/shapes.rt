@@ -65,3 +65,17 @@ pub struct Part {
     /// A box round the vertices of its triangles.
     pub bounds: Bounds,
 }
+
+/// A half-space: the points at which a·x + b·h + c·z + d isn't negative, for a column x and a row z in
+/// samples and a height h in metres. A view is a list of at most six.
+#[derive(Clone, Copy, PartialEq, Eq, Debug)]
+pub struct HalfSpace {
+    /// The factor of the column, no farther from zero than 2^20.
+    pub a: i32,
+    /// The factor of the height, no farther from zero than 2^20.
+    pub b: i32,
+    /// The factor of the row, no farther from zero than 2^20.
+    pub c: i32,
+    /// What is added, no farther from zero than 2^40.
+    pub d: i64,
+}

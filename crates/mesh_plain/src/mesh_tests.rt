@@ -6,7 +6,7 @@ ghost use Rattle.std.specs.Prelude.{◌≤◌, length};
 use crate::{Head, PlainMesh, are_drawn, few_triangles, few_vertices, kept_text, mesh, whole_text};
 use clip_regions::Region;
 use height_pyramid::Grid;
-use mesh_model::{Bounds, PartKind, Vertex};
+use mesh_model::{Bounds, HalfSpace, PartKind, Vertex};
 use obj_frames::NoMemory;
 use std::alloc::{AllocError, Global};
 use std::process::Abort;
@@ -153,6 +153,14 @@ fn six_levels_round_a_viewer(rt: HostRuntime) -> Result<(), Fail> {
     Ok(())
 }
 
+// The half-space of no point.
+const NOWHERE: HalfSpace = HalfSpace {
+    a: 0,
+    b: 0,
+    c: 0,
+    d: -1,
+};
+
 #[test]
 fn the_text_of_two_whole_windows(rt: HostRuntime) -> Result<(), Fail> {
     let head = Head {
@@ -176,7 +184,7 @@ fn the_text_of_two_whole_windows(rt: HostRuntime) -> Result<(), Fail> {
         b"v -12 0.00000 -12".as_slice()
     );
     assert_eq!(rt; line(text.as_slice(), 4 + 386 + 686), b"f 1 2 3".as_slice());
-    let none = kept_text(rt.alloc(), &head, &terrain, 4, &actives, &[false; 9])?;
+    let none = kept_text(rt.alloc(), &head, &terrain, 4, &actives, &[NOWHERE])?;
     let nothing =
         b"# clipmap frame 0\n# viewer 1 1\n# level 0 active -6 -6 8 8\n# level 1 active -6 -6 8 8\n# kept 0 of 9\n";
     assert_eq!(rt; none.as_slice(), nothing.as_slice());

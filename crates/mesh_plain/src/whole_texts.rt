@@ -11,6 +11,7 @@ ghost use Rattle.mesh_plain.specs.Frames.{AreDrawn};
 use crate::meshes::mesh;
 use clip_regions::Region;
 use height_pyramid::Grid;
+use mesh_model::HalfSpace;
 use mesh_plain_texts::{Head, frame_text, seen_text};
 use obj_frames::NoMemory;
 use std::alloc::Global;
@@ -35,22 +36,21 @@ pub fn whole_text(
     frame_text(alloc, head, actives, lists.vertices(), lists.triangles())
 }
 
-/// The text of those parts of the mesh of a terrain whose flag says that they are kept, under the
-/// conditions of [`mesh`].
+/// The text of those parts of the mesh of a terrain that a view keeps, under the conditions of [`mesh`].
 pub fn kept_text(
     alloc: Global,
     head: &Head,
     terrain: &Grid,
     k: u8,
     actives: &[Region],
-    keep: &[bool],
+    view: &[HalfSpace],
 ) -> Result<Vec<u8>, NoMemory>
     requires size { IsSize k }
     requires levels { length actives.now ≤ 12 }
     requires drawn { AreDrawn 0 actives.now }
     requires few_vertices { length (listed_vertices actives.now) < 2 ^ 31 }
     requires few_triangles { length (mesh_of terrain.now k actives.now).triangles < 2 ^ 31 }
-    ensures value { IfOk result (λ text. text.items ≡ text_of_seen head.now.number head.now.x head.now.y actives.now (mesh_of terrain.now k actives.now) keep.now) }
+    ensures value { IfOk result (λ text. text.items ≡ text_of_seen head.now.number head.now.x head.now.y actives.now (mesh_of terrain.now k actives.now) view.now) }
 {
     let lists = mesh(alloc, terrain, k, actives)?;
     seen_text(
@@ -60,6 +60,6 @@ pub fn kept_text(
         lists.vertices(),
         lists.triangles(),
         lists.parts(),
-        keep,
+        view,
     )
 }

@@ -1,1 +1,1 @@
-pub mod HalfSpaces
+pub mod Products

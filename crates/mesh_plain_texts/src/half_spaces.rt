@@ -1,64 +1,33 @@
-//! Which boxes lie outside a half-space.
+//! Which boxes lie outside a half-space, and which parts a view keeps.
 
-ghost use Rattle.std.specs.Prelude.{◌≡◌, ◌^◌, ◌&&◌, pos, neg_ℤ, ◌*ℤ◌, ◌≤ℤ◌};
-ghost use Rattle.mesh_model.specs.Seen.{corner_value as value_at_corner, is_outside as is_box_outside};
-ghost use Rattle.mesh_plain_texts.specs.HalfSpaces.{LiesWithin, IsSmall, IsNear, is_corner_outside as is_point_outside};
+ghost use Rattle.std.specs.Prelude.{◌≡◌, ◌^◌, ◌&&◌, ◌*ℤ◌};
+ghost use Rattle.std.specs.List.{list_any};
+ghost use Rattle.mesh_model.specs.Seen.{corner_value as value_at_corner, is_point_outside, is_box_outside, is_kept as is_kept_by};
+ghost use Rattle.mesh_plain_texts.specs.Products.{LiesWithin};
 
-use mesh_model::Bounds;
-
-/// The points at which a x + b h + c z + d is not negative, for a column x and a row z in samples and a
-/// height h in metres.
-#[derive(Clone, Copy, PartialEq, Eq, Debug)]
-pub struct HalfSpace {
-    /// The factor of the column, at most 2^20 from zero.
-    pub a: i32,
-    /// The factor of the height, at most 2^20 from zero.
-    pub b: i32,
-    /// The factor of the row, at most 2^20 from zero.
-    pub c: i32,
-    /// What is added, at most 2^40 from zero.
-    pub d: i64,
-}
+use mesh_model::{Bounds, HalfSpace, Part};
 
 // The product of two numbers.
-fn product(a: i64, b: i64) -> i64
-    requires first { LiesWithin (2 ^ 25) a }
-    requires second { LiesWithin (2 ^ 24) b }
+fn product(a: i32, b: i32) -> i128
     ensures value { result ≡ a *ℤ b }
-    ensures small { LiesWithin (2 ^ 49) result }
+    ensures small { LiesWithin (2 ^ 62) result }
 {
-    a * b
-}
-
-// Thirty-two times a factor, since heights are in thirty-seconds of a metre.
-fn scaled(factor: i32) -> i64
-    requires { LiesWithin (2 ^ 20) factor }
-    ensures value { result ≡ pos 32 *ℤ factor }
-    ensures small { LiesWithin (2 ^ 25) result }
-{
-    32 * i64::from(factor)
+    i128::from(a) * i128::from(b)
 }
 
 // The value at a corner of a box, in thirty-seconds: it is negative outside the half-space.
-fn corner_value(space: &HalfSpace, x: i32, height: i32, z: i32) -> i64
-    requires space { IsSmall space.now }
-    requires x { LiesWithin (2 ^ 24) x }
-    requires height { LiesWithin (2 ^ 24) height }
-    requires z { LiesWithin (2 ^ 24) z }
-    ensures { result ≡ value_at_corner space.now.a space.now.b space.now.c space.now.d x height z }
+fn corner_value(space: &HalfSpace, x: i32, height: i32, z: i32) -> i128
+    ensures { result ≡ value_at_corner space.now x height z }
 {
-    let across = product(scaled(space.a), i64::from(x));
-    let up = product(i64::from(space.b), i64::from(height));
-    let down = product(scaled(space.c), i64::from(z));
-    across + up + down + 32 * space.d
+    let across = product(space.a, x);
+    let up = product(space.b, height);
+    let down = product(space.c, z);
+    32 * across + up + 32 * down + 32 * i128::from(space.d)
 }
 
 // Whether a corner of a box lies outside a half-space.
+#[tactic(auto, unfolding(mesh_model::specs::Seen::is_point_outside))]
 fn is_corner_outside(space: &HalfSpace, x: i32, height: i32, z: i32) -> bool
-    requires space { IsSmall space.now }
-    requires x { LiesWithin (2 ^ 24) x }
-    requires height { LiesWithin (2 ^ 24) height }
-    requires z { LiesWithin (2 ^ 24) z }
     ensures { result ≡ is_point_outside space.now x height z }
 {
     corner_value(space, x, height, z) < 0
@@ -66,10 +35,6 @@ fn is_corner_outside(space: &HalfSpace, x: i32, height: i32, z: i32) -> bool
 
 // Whether both ends of an edge of a box that runs from west to east lie outside a half-space.
 fn is_edge_outside(space: &HalfSpace, bounds: &Bounds, height: i32, z: i32) -> bool
-    requires space { IsSmall space.now }
-    requires bounds { IsNear bounds.now }
-    requires height { LiesWithin (2 ^ 24) height }
-    requires z { LiesWithin (2 ^ 24) z }
     ensures { result ≡ (is_point_outside space.now bounds.now.x0 height z && is_point_outside space.now bounds.now.x1 height z) }
 {
     is_corner_outside(space, bounds.x0, height, z) && is_corner_outside(space, bounds.x1, height, z)
@@ -77,20 +42,30 @@ fn is_edge_outside(space: &HalfSpace, bounds: &Bounds, height: i32, z: i32) -> b
 
 // Whether the four corners of a box in a row lie outside a half-space.
 fn is_side_outside(space: &HalfSpace, bounds: &Bounds, z: i32) -> bool
-    requires space { IsSmall space.now }
-    requires bounds { IsNear bounds.now }
-    requires z { LiesWithin (2 ^ 24) z }
     ensures { result ≡ ((is_point_outside space.now bounds.now.x0 bounds.now.low z && is_point_outside space.now bounds.now.x1 bounds.now.low z) && (is_point_outside space.now bounds.now.x0 bounds.now.high z && is_point_outside space.now bounds.now.x1 bounds.now.high z)) }
 {
     is_edge_outside(space, bounds, bounds.low, z) && is_edge_outside(space, bounds, bounds.high, z)
 }
 
 /// Whether all eight corners of a part's box lie outside a half-space, which then drops the part.
-#[tactic(auto, unfolding(mesh_model::specs::Seen::is_outside))]
+#[tactic(auto, unfolding(mesh_model::specs::Seen::is_box_outside))]
 pub fn is_outside(space: &HalfSpace, bounds: &Bounds) -> bool
-    requires space { IsSmall space.now }
-    requires bounds { IsNear bounds.now }
-    ensures value { result ≡ is_box_outside space.now.a space.now.b space.now.c space.now.d bounds.now }
+    ensures value { result ≡ is_box_outside space.now bounds.now }
 {
     is_side_outside(space, bounds, bounds.z0) && is_side_outside(space, bounds, bounds.z1)
+}
+
+// Whether some half-space of a view drops the parts of a box.
+fn is_dropped(view: &[HalfSpace], bounds: &Bounds) -> bool
+    ensures { result ≡ list_any (λ space. is_box_outside space bounds.now) view.now }
+{
+    view.iter().any(|space| is_outside(space, bounds))
+}
+
+/// Whether no half-space of a view drops the part.
+#[tactic(auto, unfolding(mesh_model::specs::Seen::is_kept))]
+pub fn is_kept(view: &[HalfSpace], part: &Part) -> bool
+    ensures value { result ≡ is_kept_by view.now part.now }
+{
+    !is_dropped(view, &part.bounds)
 }

@@ -1,15 +1,16 @@
-//! The text of the parts of a frame that are kept.
+//! The text of the parts of a frame that a view keeps.
 
-ghost use Rattle.std.specs.Prelude.{◌≡◌, ◌+◌, ◌^◌, ◌<◌, ◌++◌, ◌==◌, [], false, IfOk, OnOk, length, map, flat_map, count_by, pos, string_bytes, slice_index_or, if◌then◌else◌};
+ghost use Rattle.std.specs.Prelude.{◌≡◌, ◌+◌, ◌^◌, ◌<◌, ◌++◌, ◌==◌, IfOk, OnOk, length, map, flat_map, pos, string_bytes, slice_index_or};
 ghost use Rattle.std.specs.List.{list_any};
 ghost use Rattle.mesh_model.specs.Conditions.{triangles_of_part as triangles_of};
 ghost use Rattle.mesh_model.specs.Text.{vertex_line, triangle_line};
-ghost use Rattle.mesh_model.specs.Seen.{kept_triangles as kept_of, is_named as is_named_by, named_places as places_named, new_place as place_anew, seen_text as text_of_seen};
+ghost use Rattle.mesh_model.specs.Seen.{kept_parts as parts_kept, triangles_of_parts as triangles_of_all, is_named as is_named_by, named_places as places_named, new_place as place_anew, seen_text as text_of_seen};
 
+use crate::half_spaces::is_kept;
 use crate::lines::{KeptLine, TriangleLine, VertexLine};
 use crate::texts::{Head, write_head};
 use clip_regions::Region;
-use mesh_model::{Part, Vertex};
+use mesh_model::{HalfSpace, Part, Vertex};
 use obj_frames::NoMemory;
 use std::alloc::{AllocError, Global};
 
@@ -23,43 +24,30 @@ fn triangles_of_part<'a>(triangles: &'a [[u32; 3]], part: &Part) -> &'a [[u32; 3
     &rest[..count]
 }
 
-// Whether the part at a place is kept; a place past the last flag is not.
-fn is_kept(keep: &[bool], place: usize) -> bool
-    ensures { result ≡ slice_index_or keep.now place false }
+// The parts that a view keeps.
+fn kept_parts(alloc: Global, parts: &[Part], view: &[HalfSpace]) -> Result<Vec<Part>, AllocError>
+    ensures { IfOk result (λ kept. kept.items ≡ parts_kept view.now parts.now) }
 {
-    place < keep.len() && keep[place]
+    parts
+        .iter()
+        .copied()
+        .filter(|part| is_kept(view, part))
+        .collect(alloc)
 }
 
-// Adds the triangles of a part where it is kept.
-fn add_part(
-    kept: &mut Vec<[u32; 3]>,
-    triangles: &[[u32; 3]],
-    part: &Part,
-    is_kept: bool,
-) -> Result<(), AllocError>
-    ensures { OnOk result (kept.new.items ≡ kept.old.items ++ (if is_kept then triangles_of triangles.now part.now else [])) }
-{
-    if is_kept {
-        kept.extend_from_slice(triangles_of_part(triangles, part))
-    } else {
-        Ok(())
-    }
-}
-
-// The triangles of the parts that are kept.
-fn kept_triangles(
+// The triangles of some parts.
+fn triangles_of_parts(
     alloc: Global,
     triangles: &[[u32; 3]],
     parts: &[Part],
-    keep: &[bool],
 ) -> Result<Vec<[u32; 3]>, AllocError>
-    ensures { IfOk result (λ kept. kept.items ≡ kept_of triangles.now parts.now keep.now) }
+    ensures { IfOk result (λ found. found.items ≡ triangles_of_all triangles.now parts.now) }
 {
-    let mut kept = Vec::new(alloc);
-    for (place, part) in parts.iter().enumerate() {
-        add_part(&mut kept, triangles, part, is_kept(keep, place))?;
+    let mut found = Vec::new(alloc);
+    for part in parts {
+        found.extend_from_slice(triangles_of_part(triangles, part))?;
     }
-    Ok(kept)
+    Ok(found)
 }
 
 // Whether a triangle has the vertex at a place.
@@ -150,16 +138,9 @@ fn write_renumbered(text: &mut String, triangles: &[[u32; 3]]) -> Result<(), All
     Ok(())
 }
 
-// How many flags say that a part is kept.
-fn kept_count(keep: &[bool]) -> usize
-    ensures { result ≡ count_by (λ kept. kept) keep.now }
-{
-    keep.iter().filter(|kept| **kept).count()
-}
-
-/// The text of the parts of a frame that are kept, each with its flag: the head, a line that says how
-/// many of the parts are kept, the triangles of these parts in their order, and only the vertices that
-/// these triangles have, numbered anew.
+/// The text of the parts of a frame that a view keeps: the head, a line that says how many of the parts
+/// are kept, the triangles of these parts in their order, and only the vertices that these triangles
+/// have, numbered anew.
 pub fn seen_text(
     alloc: Global,
     head: &Head,
@@ -167,21 +148,22 @@ pub fn seen_text(
     vertices: &[Vertex],
     triangles: &[[u32; 3]],
     parts: &[Part],
-    keep: &[bool],
+    view: &[HalfSpace],
 ) -> Result<Vec<u8>, NoMemory>
     requires few { length vertices.now < 2 ^ 31 }
-    ensures value { IfOk result (λ text. text.items ≡ text_of_seen head.now.number head.now.x head.now.y actives.now (record { vertices = vertices.now; triangles = triangles.now; parts = parts.now }) keep.now) }
+    ensures value { IfOk result (λ text. text.items ≡ text_of_seen head.now.number head.now.x head.now.y actives.now (record { vertices = vertices.now; triangles = triangles.now; parts = parts.now }) view.now) }
 {
-    let kept = kept_triangles(alloc, triangles, parts, keep)?;
-    let places = named_places(alloc, kept.as_slice(), vertices.len() as u32)?;
+    let kept = kept_parts(alloc, parts, view)?;
+    let seen = triangles_of_parts(alloc, triangles, kept.as_slice())?;
+    let places = named_places(alloc, seen.as_slice(), vertices.len() as u32)?;
     let line = KeptLine {
-        kept: kept_count(keep),
+        kept: kept.len(),
         whole: parts.len(),
     };
     let mut text = String::new(alloc);
     write_head(&mut text, head, actives)?;
     write!(text, "{line}")?;
     write_vertices_at(&mut text, vertices, places.as_slice())?;
-    write_renumbered(&mut text, kept.as_slice())?;
+    write_renumbered(&mut text, seen.as_slice())?;
     Ok(text.into_bytes())
 }

@@ -1,8 +1,8 @@
 //! Worked examples of texts and boxes.
 
-use crate::{HalfSpace, Head, frame_text, is_outside, seen_text};
+use crate::{Head, frame_text, is_outside, seen_text};
 use clip_regions::Region;
-use mesh_model::{Bounds, Part, PartKind, Vertex};
+use mesh_model::{Bounds, HalfSpace, Part, PartKind, Vertex};
 use std::test::Fail;
 
 const VERTICES: [Vertex; 4] = [
@@ -68,20 +68,38 @@ const BOX: Bounds = Bounds {
     high: 3005,
 };
 
+// A box of the same ends on the ground, but for its top.
+const LOW: Bounds = Bounds {
+    x0: 0,
+    x1: 2,
+    z0: 0,
+    z1: 2,
+    low: -1,
+    high: 368,
+};
+
+// The points at 90 metres and above.
+const HIGH_UP: HalfSpace = HalfSpace {
+    a: 0,
+    b: 1,
+    c: 0,
+    d: -90,
+};
+
 // A part of one triangle.
-fn part(first: u32) -> Part {
+fn part(first: u32, bounds: Bounds) -> Part {
     Part {
         level: 1,
         kind: PartKind::Whole,
         first,
         count: 1,
-        bounds: BOX,
+        bounds,
     }
 }
 
 #[test]
 fn prints_kept_parts(rt: HostRuntime) -> Result<(), Fail> {
-    let parts = [part(0), part(1)];
+    let parts = [part(0, LOW), part(1, BOX)];
     let text = seen_text(
         rt.alloc(),
         &HEAD,
@@ -89,7 +107,7 @@ fn prints_kept_parts(rt: HostRuntime) -> Result<(), Fail> {
         &VERTICES,
         &TRIANGLES,
         &parts,
-        &[false, true],
+        &[HIGH_UP],
     )?;
     let wanted =
         b"# clipmap frame 7\n# viewer 1 -1\n# level 0 empty\n# level 1 active 0 0 1 1\n# kept 1 of 2\nv 0 93.90625 0\nv 2 11.50000 0\nv 2 -0.03125 2\nf 1 3 2\n";
