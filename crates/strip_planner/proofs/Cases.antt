@@ -1,5 +1,5 @@
 -- The strips and the least region by cases on what is empty, and the first of a list.
-use Rattle.std.proofs.Common.{◌≡◌, true, false, List, [], ◌∷◌, filter, refl}
+use Rattle.std.proofs.Common.{◌≡◌, true, false, [], ◌∷◌, filter}
 use Rattle.clip_regions.specs.declared.region.Region.{Region}
 use Rattle.clip_regions.specs.Regions.{is_empty}
 use Rattle.plan_model.specs.Strips.{has_cell, left_of, right_of, above, below, strips, hull}

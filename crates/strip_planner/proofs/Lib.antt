@@ -9,3 +9,4 @@ pub mod Sides
 pub mod Counted
 pub mod MetTiles
 pub mod PlannedRegions
+pub mod Held

@@ -1,11 +1,10 @@
 -- The remainder by a power of two below 32, by a mask.
-use Rattle.std.proofs.Common.{◌≡◌, ℕ, zero, suc, ◌+◌, ◌-◌, ◌*◌, ◌/◌, ◌%◌, ◌^◌, ◌<◌, ◌≤◌, ℤ, pos, negsuc, ap, sym, ◌∙◌, subst, arith}
+use Rattle.std.proofs.Common.{◌≡◌, ℕ, zero, suc, ◌+◌, ◌-◌, ◌*◌, ◌/◌, ◌%◌, ◌^◌, ◌≤◌, ℤ, pos, negsuc, ap, ◌∙◌, arith}
 use Rattle.std.proofs.lemmas.Nat.Bits.{and_high}
 use lib.Bits.{bit_and}
 use Rattle.clip_regions.specs.FloorDivision.{floor_rem}
 use Rattle.plan_model.specs.Window.{torus_side, half_width}
 use Rattle.plan_model.specs.Blocks.{tiles_per_side}
-use Rattle.strip_planner.proofs.Rings.{rem_below}
 
 pub by_size : (P : ℕ → Type 0) → P 4 → P 5 → P 6 → P 7 → P 8 → (k : ℕ) → 4 ≤ k → k ≤ 8 → P k
 by_size P a b c d e zero low high = absurd (omega arith)

@@ -1,14 +1,13 @@
 -- A region in a window is short and lies near the mosaic's corner.
-use Rattle.std.proofs.Common.{◌≡◌, ℕ, ◌^◌, ◌≤◌, false, ℤ, pos, ◌+ℤ◌, ◌-ℤ◌, ◌≤ℤ◌, arith}
+use Rattle.std.proofs.Common.{ℕ, ◌^◌, ◌≤◌, ℤ, pos, ◌-ℤ◌, ◌≤ℤ◌, arith}
 use Rattle.std.proofs.lemmas.Int.{ints}
 use Rattle.clip_regions.specs.declared.region.Region.{Region}
-use Rattle.clip_regions.specs.Regions.{is_empty, holds, IsWithin}
-use Rattle.plan_model.specs.Limits.{IsSize}
+use Rattle.clip_regions.specs.Regions.{IsWithin}
 use Rattle.plan_model.specs.Window.{window, half_width}
 use Rattle.plan_model.specs.Sound.{IsInside}
 use Rattle.plan_laws.specs.Hulls.{InsideIsHeld}
 use Rattle.plan_sound.specs.Laws.{WindowsAreNear}
-use Rattle.strip_planner.specs.Planned.{IsPlanned, RegionsInWindowsArePlanned}
+use Rattle.strip_planner.specs.Planned.{RegionsInWindowsArePlanned}
 use Rattle.strip_planner.proofs.Masks.{half_at_most}
 
 near_from : (n : ℕ) (w r : Region) → IsWithin n w → IsInside w r → IsWithin n r

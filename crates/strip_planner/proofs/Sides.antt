@@ -1,5 +1,5 @@
 -- The strips round a filled region, one by one.
-use Rattle.std.proofs.Common.{◌≡◌, Bool, true, false, cond, ℤ, pos, ◌+ℤ◌, ◌-ℤ◌, ◌≤ℤ◌, ◌<ℤ◌, List, [], ◌∷◌, ◌++◌, filter, length, Option, Some, None, refl, ap, sym, ◌∙◌, inl, inr, arith}
+use Rattle.std.proofs.Common.{◌≡◌, Bool, true, false, cond, ℤ, ◌≤ℤ◌, ◌<ℤ◌, List, [], ◌∷◌, ◌++◌, filter, length, Some, None, refl, ap, sym, ◌∙◌, inl, inr, arith}
 use Rattle.std.specs.Prelude.{not}
 use Rattle.std.specs.List.{slice_get}
 use Rattle.std.proofs.lemmas.Int.{ints}
@@ -7,7 +7,7 @@ use Rattle.std.proofs.lemmas.Bool.{or_from, or_left, or_right, true≢false}
 use Rattle.std.proofs.lemmas.List.Elements.{filter-append}
 use lib.Signed.{lt_z}
 use Rattle.clip_regions.specs.declared.region.Region.{Region}
-use Rattle.clip_regions.specs.Regions.{is_empty, holds}
+use Rattle.clip_regions.specs.Regions.{is_empty}
 use Rattle.plan_model.specs.Strips.{first_of, has_cell, left_of, right_of, above, below}
 use Rattle.plan_model.specs.Sound.{IsInside}
 use Rattle.plan_model.specs.Laws.{IsFilledIn}

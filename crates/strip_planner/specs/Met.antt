@@ -1,5 +1,5 @@
 -- Which tiles of a torus an axis of blocks meets, going round.
-use Rattle.std.specs.Prelude.{ℕ, ◌+◌, ◌-◌, ◌<◌, Bool, ◌&&◌, ◌==◌, nat_lt, nat_le, ℤ, if◌then◌else◌}
+use Rattle.std.specs.Prelude.{ℕ, ◌+◌, ◌-◌, ◌<◌, Bool, ◌==◌, nat_le, ℤ, if◌then◌else◌}
 use Rattle.std.specs.List.{list_any}
 use Rattle.clip_regions.specs.FloorDivision.{floor_rem}
 use Rattle.clip_regions.specs.Regions.{numbers_from}

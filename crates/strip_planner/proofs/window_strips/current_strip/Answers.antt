@@ -1,7 +1,5 @@
-use Rattle.std.proofs.Common.{◌≡◌, List, length, ap, sym, ◌∙◌, subst, arith}
-use Rattle.std.specs.List.{slice_get}
-use Rattle.clip_regions.specs.declared.region.Region.{Region}
-use Rattle.plan_model.specs.Strips.{first_of, strips, current_strip}
+use Rattle.std.proofs.Common.{◌≡◌, length, ap, sym, ◌∙◌, arith}
+use Rattle.plan_model.specs.Strips.{first_of, current_strip}
 use Rattle.strip_planner.proofs.Sides.{first_none, first_some}
 use Rattle.strip_planner.proofs.window_strips.current_strip.Goals as goal
 

@@ -1,9 +1,9 @@
 -- Nothing is left; the last piece of a row; one more piece of a row.
-use Rattle.std.proofs.Common.{◌≡◌, ℕ, ◌-◌, ℤ, pos, ◌+ℤ◌, [], ◌∷◌, length, ap, sym, ◌∙◌, rules, arith}
+use Rattle.std.proofs.Common.{◌≡◌, ◌-◌, ℤ, pos, ◌+ℤ◌, [], ◌∷◌, length, ap, sym, ◌∙◌, rules, arith}
 use Rattle.std.proofs.lemmas.Int.{ints}
 use mathlib.Core.Path.{ap₂}
 use mir.Syntax.{w32}
-use mir.Val.{SFits, of_z, to_z}
+use mir.Val.{of_z, to_z}
 use Rattle.plan_model.specs.Strips.{piece_in}
 use Rattle.plan_model.specs.declared.tiles.Piece.{Piece}
 use Rattle.strip_planner.proofs.Walks.{left, left_none, left_more, left_turn}

@@ -1,4 +1,4 @@
-use Rattle.std.proofs.Common.{◌≡◌, length, take, ap, sym, ◌∙◌, arith, length-take}
+use Rattle.std.proofs.Common.{◌≡◌, length, take, ap, sym, arith, length-take}
 use Rattle.strip_planner.proofs.strip_list.Strips.count.Goals as goal
 
 pub returns-clause-value : goal.returns-clause-value

@@ -1,0 +1,4 @@
+pub mod Places
+pub mod Grids
+pub mod Laws
+pub mod Shown
