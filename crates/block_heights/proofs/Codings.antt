@@ -1,5 +1,5 @@
 -- A table of codes as the codes of a block's cells.
-use Rattle.std.proofs.Common.{◌≡◌, Bool, true, false, ℕ, zero, suc, ◌+◌, ◌-◌, ◌<◌, ◌≤◌, ℤ, pos, negsuc, ◌+ℤ◌, ◌-ℤ◌, List, [], ◌∷◌, ◌++◌, length, get_or, map, filter, cond, refl, ap, sym, ◌∙◌, subst, arith, length-append, Err, Result}
+use Rattle.std.proofs.Common.{◌≡◌, Bool, true, false, ℕ, ℤ, pos, negsuc, ◌+ℤ◌, ◌-ℤ◌, List, [], ◌∷◌, ◌++◌, length, get_or, map, filter, cond, refl, ap, sym, ◌∙◌, subst, arith, length-append}
 use Rattle.std.proofs.lemmas.Int.{ints}
 use Rattle.std.proofs.lemmas.List.{length-map}
 use Rattle.std.specs.List.{flat_map, range_with_len}
@@ -8,7 +8,7 @@ use Rattle.clip_regions.specs.declared.region.Region.{Region}
 use Rattle.clip_regions.specs.Regions.{columns, rows}
 use Rattle.rice_residuals.specs.Word.{IsWordOf}
 use Rattle.store_model.specs.Blocks.{is_coded, coded_values, code_count, IsCoding}
-use Rattle.block_heights.specs.Rows.{coded_columns, row_values, table_values, coded_before, cell_of, signed_cell, table_code, IsCodeRow}
+use Rattle.block_heights.specs.Rows.{coded_columns, table_values, coded_before, cell_of, signed_cell, table_code, IsCodeRow}
 use Rattle.block_heights.proofs.Cells.{table_code_at}
 
 filter_of_map : {A : Type 0} (p : A → Bool) (h : ℕ → A) (xs : List ℕ) → filter p (map h xs) ≡ map h (filter (λ x. p (h x)) xs)

@@ -1,11 +1,10 @@
 -- Parts of blocks, and what a block's judgement is made of.
-use Rattle.std.proofs.Common.{◌≡◌, ◌⊎◌, inl, inr, Bool, true, false, ◌||◌, ℕ, zero, suc, ◌+◌, ◌-◌, ◌*◌, ◌<◌, ◌≤◌, ◌↔◌, ℤ, pos, negsuc, ◌+ℤ◌, ◌-ℤ◌, ◌*ℤ◌, ◌≤ℤ◌, ◌<ℤ◌, List, length, Result, Ok, Err, OnOk, IfErr, refl, ap, sym, ◌∙◌, subst, ⊎_elim, arith}
+use Rattle.std.proofs.Common.{◌≡◌, ◌⊎◌, inl, inr, Bool, true, false, ◌||◌, ℕ, ◌*◌, ◌<◌, ◌↔◌, ℤ, pos, negsuc, ◌+ℤ◌, ◌≤ℤ◌, ◌<ℤ◌, List, Result, Ok, Err, OnOk, refl, ap, ◌∙◌, ⊎_elim, arith}
 use Rattle.std.proofs.lemmas.Int.{ints}
 use Rattle.std.specs.Int.{int_gap}
 use lib.Signed.{lt_z}
-use mathlib.Core.Path.{ap₂}
 use Rattle.clip_regions.specs.declared.region.Region.{Region}
-use Rattle.clip_regions.specs.Regions.{is_empty, area, columns, rows, IsPlaced}
+use Rattle.clip_regions.specs.Regions.{is_empty, area, columns, rows}
 use Rattle.four_point.specs.declared.patch.Patch.{Patch}
 use Rattle.rice_residuals.specs.Faults.{HasFault}
 use Rattle.rice_residuals.specs.declared.residuals.Residuals.{Residuals}

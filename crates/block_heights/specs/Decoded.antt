@@ -1,18 +1,17 @@
 -- What a block says of a piece of its cells, by its kind.
-use Rattle.std.specs.Prelude.{◌≡◌, ◌⊎◌, ℕ, ◌+◌, ◌*◌, ◌-◌, ◌<◌, ◌^◌, true, false, List, length, ℤ, pos, neg_ℤ, ◌+ℤ◌, ◌-ℤ◌, ◌*ℤ◌, ◌≤ℤ◌}
+use Rattle.std.specs.Prelude.{◌≡◌, ◌⊎◌, ℕ, ◌*◌, ◌<◌, ◌^◌, true, List, length, ℤ, pos, neg_ℤ, ◌+ℤ◌, ◌-ℤ◌, ◌*ℤ◌, ◌≤ℤ◌}
 use Rattle.clip_regions.specs.declared.region.Region.{Region}
 use Rattle.clip_regions.specs.Regions.{is_empty, area}
 use Rattle.four_point.specs.Patches.{patch_height}
 use Rattle.four_point.specs.declared.patch.Patch.{Patch}
 use Rattle.rice_residuals.specs.Faults.{HasFault}
-use Rattle.store_model.specs.Blocks.{IsCoding, plain_bytes, code_count}
+use Rattle.store_model.specs.Blocks.{IsCoding, code_count}
 use Rattle.store_model.specs.Faults.{HasPlainFault}
-use Rattle.block_heights.specs.declared.block.Block.{Block}
 use Rattle.block_heights.specs.declared.block.Kind.{Kind}
 use Rattle.block_heights.specs.declared.block.Kind.TheVariants.{Outside, Plain, Words}
 use Rattle.block_heights.specs.declared.block.PieceFault.{PieceFault}
 use Rattle.block_heights.specs.declared.block.PieceFault.TheVariants.{BadBlock, OutOfRange}
-use Rattle.block_heights.specs.Pieces.{IsSmall, within, plain_height, coded_height, IsPieceUpTo, AreNearUpTo, HasOut}
+use Rattle.block_heights.specs.Pieces.{within, plain_height, coded_height, IsPieceUpTo, AreNearUpTo, HasOut}
 
 -- some cells of the block in column bx and row by
 pub record IsPartOf (bx by : ℤ) (region : Region) : Type 0 where

@@ -1,13 +1,11 @@
 -- The heights of a piece of a block.
-use Rattle.std.specs.Prelude.{◌≡◌, ℕ, ◌+◌, ◌*◌, ◌/◌, ◌%◌, ◌<◌, ◌≤◌, ◌^◌, Bool, true, false, IsTrue, List, length, ℤ, pos, ◌+ℤ◌, ◌-ℤ◌, ◌*ℤ◌, ◌≤ℤ◌, neg_ℤ, nat_abs, if◌then◌else◌, slice_index_or}
+use Rattle.std.specs.Prelude.{◌≡◌, ℕ, ◌+◌, ◌*◌, ◌/◌, ◌%◌, ◌<◌, IsTrue, List, ℤ, pos, ◌+ℤ◌, ◌-ℤ◌, ◌≤ℤ◌, nat_abs, if◌then◌else◌, slice_index_or}
 use Rattle.clip_regions.specs.declared.region.Region.{Region}
-use Rattle.clip_regions.specs.Regions.{contains, columns, rows, IsPlaced}
+use Rattle.clip_regions.specs.Regions.{contains, columns, IsPlaced}
 use Rattle.terrain_model.specs.Tile.{raw_sample}
-use Rattle.four_point.specs.Patches.{patch_height, IsOfBlock}
+use Rattle.four_point.specs.Patches.{IsOfBlock}
 use Rattle.four_point.specs.Steps.{value_of, brought, IsNear}
 use Rattle.four_point.specs.declared.patch.Patch.{Patch}
-use Rattle.store_model.specs.Blocks.{IsCoding, plain_bytes}
-use Rattle.store_model.specs.Faults.{ComesBefore}
 use Rattle.block_heights.specs.declared.block.PieceFault.{PieceFault}
 use Rattle.block_heights.specs.declared.block.PieceFault.TheVariants.{BadBlock, OutOfRange}
 

@@ -1,5 +1,5 @@
 -- The coded cells of a region by their columns, and tables of codes.
-use Rattle.std.specs.Prelude.{ℕ, ◌+◌, ◌<◌, ◌≡◌, Bool, false, List, [], map, filter, length, ℤ, pos, negsuc, ◌+ℤ◌, ◌-ℤ◌, slice_index_or}
+use Rattle.std.specs.Prelude.{ℕ, ◌≡◌, false, List, [], map, filter, length, ℤ, pos, negsuc, ◌+ℤ◌, ◌-ℤ◌, slice_index_or}
 use Rattle.std.specs.List.{flat_map, range_with_len}
 use Rattle.clip_regions.specs.declared.region.Region.{Region}
 use Rattle.rice_residuals.specs.Code.{IsResidual}

@@ -11,3 +11,6 @@ mod pieces;
 pub use block::{Block, Kind, PieceFault};
 pub use codes::is_coded;
 pub use pieces::piece_heights;
+
+#[cfg(test)]
+mod tests;

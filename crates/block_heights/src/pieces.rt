@@ -7,7 +7,6 @@ ghost use Rattle.four_point.specs.Patches.{patch_height, IsOfBlock};
 ghost use Rattle.four_point.specs.Steps.{IsStep, IsNear, value_of};
 ghost use Rattle.block_heights.specs.Rows.{table_code, HasCodes};
 ghost use Rattle.block_heights.specs.Pieces.{IsSmall, Lies, IsInPatch, within, column_of, row_of, IsPieceUpTo, plain_height, coded_height, AreNearUpTo, HasOut, IsOutCell};
-
 ghost use Rattle.clip_regions.specs.Regions.{area};
 ghost use Rattle.rice_residuals.specs.Faults.{HasFault};
 ghost use Rattle.store_model.specs.Blocks.{code_count};
@@ -197,7 +196,14 @@ fn fill_plain(bytes: &[u8], inside: Region, cells: Region, out: &mut [i16])
 }
 
 /// The heights of a piece of a block of codes.
-fn word_piece(bytes: &[u8], inside: Region, step: u8, patch: &Patch, cells: Region, out: &mut [i16]) -> Result<(), PieceFault>
+fn word_piece(
+    bytes: &[u8],
+    inside: Region,
+    step: u8,
+    patch: &Patch,
+    cells: Region,
+    out: &mut [i16],
+) -> Result<(), PieceFault>
     requires bytes { length bytes.now < 65536 }
     requires inside { IsSmall inside }
     requires patch { IsInPatch patch.now inside }
@@ -246,7 +252,12 @@ fn plain_fault(bytes: &[u8], cells: usize) -> Option<BlockFault>
 }
 
 /// The heights of a piece of a plain block.
-fn plain_piece(bytes: &[u8], inside: Region, cells: Region, out: &mut [i16]) -> Result<(), PieceFault>
+fn plain_piece(
+    bytes: &[u8],
+    inside: Region,
+    cells: Region,
+    out: &mut [i16],
+) -> Result<(), PieceFault>
     requires bytes { length bytes.now < 65536 }
     requires inside { IsSmall inside }
     requires cells { 0 < length out.old → IsSmall cells }
@@ -276,7 +287,12 @@ fn fill_zeros(out: &mut [i16], cells: Region)
 
 /// The heights of some cells of a block, row by row from the north and each row from the west, in metres; 0 outside the
 /// terrain. `patch` is the block's patch of coarser heights. After a refusal nothing is said of `out`. No memory is taken.
-pub fn piece_heights(block: &Block<'_>, patch: &Patch, cells: Region, out: &mut [i16]) -> Result<(), PieceFault>
+pub fn piece_heights(
+    block: &Block<'_>,
+    patch: &Patch,
+    cells: Region,
+    out: &mut [i16],
+) -> Result<(), PieceFault>
     requires placed { IsNearZero block.now.bx block.now.by }
     requires kind { HasKind block.now.kind block.now.bx block.now.by block.now.inside patch.now }
     requires step { IsStep block.now.step }

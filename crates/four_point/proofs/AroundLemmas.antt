@@ -1,5 +1,5 @@
 -- The heights of a patch that was filled from a level's heights, and that predictions depend on them alone.
-use Rattle.std.proofs.Common.{◌≡◌, ℕ, zero, suc, ℤ, pos, negsuc, nat_abs, ◌+◌, ◌*◌, ◌<◌, ◌≤◌, ◌+ℤ◌, ◌-ℤ◌, ◌*ℤ◌, ◌≤ℤ◌, ◌<ℤ◌, List, [], ◌∷◌, get_or, sym, ap, ◌∙◌, subst, refl, arith}
+use Rattle.std.proofs.Common.{◌≡◌, ℕ, zero, suc, ℤ, pos, negsuc, nat_abs, ◌<◌, ◌≤◌, ◌+ℤ◌, ◌-ℤ◌, ◌*ℤ◌, ◌≤ℤ◌, List, [], ◌∷◌, get_or, sym, ap, ◌∙◌, refl, arith}
 use Rattle.std.specs.Int.{w16, w32}
 use Rattle.std.proofs.lemmas.Int.{ints, to_z-of_z}
 use mathlib.Core.Path.{ap₂}

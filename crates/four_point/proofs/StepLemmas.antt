@@ -1,8 +1,8 @@
 -- How large a code is, and how near its value is to the height.
-use Rattle.std.proofs.Common.{◌≡◌, ℕ, ◌+◌, ◌-◌, ◌*◌, ◌/◌, ◌%◌, ◌<◌, ◌≤◌, ℤ, pos, negsuc, neg_ℤ, ◌+ℤ◌, ◌-ℤ◌, ◌*ℤ◌, ◌≤ℤ◌, ◌<ℤ◌, ⊎_elim, ◌⊎◌, inl, inr, arith}
+use Rattle.std.proofs.Common.{◌≡◌, ℕ, ◌+◌, ◌-◌, ◌/◌, ◌<◌, ◌≤◌, ℤ, pos, negsuc, ◌+ℤ◌, ◌-ℤ◌, ◌*ℤ◌, ◌≤ℤ◌, ◌<ℤ◌, ⊎_elim, ◌⊎◌, inl, inr, arith}
 use Rattle.std.proofs.lemmas.Int.{ints}
 use Rattle.std.proofs.lemmas.Int.{clamps}
-use Rattle.std.proofs.Common.{sym, ap, ◌∙◌, refl, unsigned_abs, FitsSigned, ◌^◌, subst}
+use Rattle.std.proofs.Common.{refl, unsigned_abs, FitsSigned, ◌^◌}
 use Rattle.std.specs.Int.{w16}
 use native.Mathlib.Nat.{div-le_self}
 use Rattle.clip_regions.specs.FloorDivision.{floor_div, floor_rem}

@@ -16,7 +16,8 @@ mod sums;
 
 pub use around::{Heights, patch_around};
 pub use laws::{
-    brought_heights, code_by_one, code_size, even_residual, predictions, residual_size, values_are_near,
+    brought_heights, code_by_one, code_size, even_residual, predictions, residual_size,
+    values_are_near,
 };
 pub use patch::Patch;
 pub use prediction::{predict, residual, restore};

@@ -82,7 +82,10 @@ fn heights_by_steps(rt: HostRuntime) {
         assert_eq!(rt; value_by(&patch, 1, 1, code, step), value);
         assert_eq!(rt; bring(value), near);
     }
-    assert_eq!(rt; (bring(-32769), bring(100000), bring(-7)), (-32768, 32767, -7));
+    assert_eq!(rt;
+        (bring(-32769), bring(100000), bring(-7)),
+        (-32768, 32767, -7)
+    );
 }
 
 struct Flat(i16);

@@ -1,8 +1,7 @@
 -- How many bytes a canonical word has at most.
-use Rattle.std.proofs.Common.{ℕ, ◌≡◌, ◌<◌, ◌≤◌, ◌+◌, ◌*◌, ℤ, List, length, replicate, false, ap, ◌∙◌, arith, length-append}
+use Rattle.std.proofs.Common.{◌≤◌, ℤ, List, length, replicate, false, ap, arith, length-append}
 use Rattle.std.proofs.lemmas.List.{length-replicate}
 use Rattle.rice_residuals.specs.Bits.{packed}
-use Rattle.rice_residuals.specs.Code.{codes}
 use Rattle.rice_residuals.specs.Word.{word_bits, best_parameter, canonical_word}
 use Rattle.rice_residuals.proofs.ByteBits.{padding_of, padding_below, bits_of_bytes-packed, length-bits_of_bytes}
 use Rattle.rice_residuals.proofs.WordRead.{word_bits_length}

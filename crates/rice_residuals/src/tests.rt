@@ -43,6 +43,15 @@ fn writes_and_reads_worked_words(rt: HostRuntime) -> Result<(), Fail> {
 }
 
 #[test]
+fn appends_words(rt: HostRuntime) -> Result<(), Fail> {
+    let mut out = vec![in rt.alloc(); 7u8]?;
+    append_block(rt.alloc(), &mut out, &residuals_of(&[0, -1, 1, -2, 2]))?;
+    append_block(rt.alloc(), &mut out, &residuals_of(&[]))?;
+    assert_eq!(rt; out.as_slice(), [7, 0x11, 0x97, 0x00, 0x00].as_slice());
+    Ok(())
+}
+
+#[test]
 fn folds_worked_values(rt: HostRuntime) {
     for (value, code) in [
         (0, 0),

@@ -1,15 +1,14 @@
 -- The heights of a level outside the terrain.
-use Rattle.std.proofs.Common.{◌≡◌, ◌⊎◌, inl, inr, Bool, true, false, ◌&&◌, cond, ltb, ℕ, zero, suc, ◌+◌, ◌-◌, ◌*◌, ◌/◌, ◌%◌, ◌^◌, ◌<◌, ◌≤◌, ℤ, pos, negsuc, neg_ℤ, ◌*ℤ◌, ◌≤ℤ◌, ◌<ℤ◌, List, All, length, get_or, FitsSigned, refl, ap, sym, ◌∙◌, subst, ⊎_elim, arith}
+use Rattle.std.proofs.Common.{◌≡◌, ◌⊎◌, inl, inr, Bool, true, false, ◌&&◌, cond, ltb, ℕ, suc, ◌+◌, ◌-◌, ◌*◌, ◌/◌, ◌^◌, ◌<◌, ◌≤◌, ℤ, pos, negsuc, neg_ℤ, ◌*ℤ◌, ◌≤ℤ◌, length, get_or, FitsSigned, refl, ap, sym, ◌∙◌, ⊎_elim, arith}
 use Rattle.std.specs.Int.{w16}
 use Rattle.std.proofs.lemmas.Int.{ints}
 use Rattle.std.proofs.lemmas.Nat.{pow_pos}
-use Rattle.std.proofs.lemmas.Bool.{cases_lt, cases_Bool, false≢true}
+use Rattle.std.proofs.lemmas.Bool.{cases_lt, false≢true}
 use Rattle.std.proofs.lemmas.Bool.Decides.{nat_tests}
 use Rattle.std.proofs.lemmas.List.{get_or_past}
 use Rattle.std.proofs.Math.IntN.{negsuc-*ℤ-pos}
-use Rattle.std.proofs.Math.Nat.{mul-le-mul, mul-le-mul_left}
-use lib.Signed.{lt_z, le_z}
-use Rattle.clip_regions.specs.declared.region.Region.{Region}
+use Rattle.std.proofs.Math.Nat.{mul-le-mul}
+use lib.Signed.{le_z}
 use Rattle.clip_regions.specs.Regions.{contains}
 use Rattle.terrain_model.specs.Terrain.{Terrain, IsTerrain, height_at, level_height}
 use Rattle.store_model.specs.Sizes.{cells_on, level_region}

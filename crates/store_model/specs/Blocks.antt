@@ -1,5 +1,5 @@
 -- What the bytes of a block stand for: heights as they are, or a block word of codes over the coarser level's predictions.
-use Rattle.std.specs.Prelude.{◌≡◌, ℕ, ◌-◌, ◌/◌, ◌%◌, Bool, true, false, ◌&&◌, ◌==◌, not, IsTrue, List, [], ◌∷◌, map, filter, flat_map, length, ℤ, pos, negsuc, if◌then◌else◌}
+use Rattle.std.specs.Prelude.{◌≡◌, ℕ, ◌-◌, ◌/◌, ◌%◌, Bool, false, ◌&&◌, ◌==◌, not, IsTrue, List, [], ◌∷◌, map, filter, flat_map, length, ℤ, pos, negsuc}
 use Rattle.clip_regions.specs.declared.region.Region.{Region}
 use Rattle.clip_regions.specs.Regions.{contains, columns, rows, numbers_from}
 use Rattle.clip_regions.specs.FloorDivision.{floor_rem}

@@ -1,5 +1,5 @@
 -- How near a restored terrain is to the terrain.
-use Rattle.std.specs.Prelude.{◌≡◌, ℕ, suc, ◌-◌, ◌<◌, false, ℤ, pos}
+use Rattle.std.specs.Prelude.{◌≡◌, ℕ, ◌<◌, false, ℤ, pos}
 use Rattle.clip_regions.specs.Regions.{contains}
 use Rattle.terrain_model.specs.Terrain.{Terrain, IsTerrain, level_height}
 use Rattle.four_point.specs.Steps.{IsStep}

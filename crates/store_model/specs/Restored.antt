@@ -1,5 +1,5 @@
 -- The terrain that a store with a step restores, and the canonical stores.
-use Rattle.std.specs.Prelude.{ℕ, zero, suc, ◌+◌, ◌-◌, ◌*◌, ◌/◌, ◌%◌, Bool, true, false, ◌==◌, List, ◌++◌, map, ℤ, pos, if◌then◌else◌}
+use Rattle.std.specs.Prelude.{ℕ, zero, suc, ◌+◌, ◌-◌, ◌*◌, ◌/◌, ◌%◌, ◌==◌, List, ◌++◌, map, ℤ, pos, if◌then◌else◌}
 use Rattle.std.specs.List.{flat_map, range_with_len}
 use Rattle.clip_regions.specs.Regions.{contains}
 use Rattle.clip_regions.specs.FloorDivision.{floor_div}

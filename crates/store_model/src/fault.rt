@@ -21,9 +21,13 @@ pub enum StoreFault {
     /// The first bytes, up to four, are not those of `GCT1` or `GCT2`.
     BadMagic,
     /// A field of the header is out of its range.
-    BadHeader { field: Field },
+    BadHeader {
+        field: Field,
+    },
     /// The bytes end before the header, or before a block or its length, is whole: `offset` is their number.
-    CutShort { offset: u64 },
+    CutShort {
+        offset: u64,
+    },
     /// The bytes of a block, in column `bx` and row `by` of the level's blocks, are no word of its codes or not its heights.
     BadBlock {
         level: u8,
@@ -40,7 +44,9 @@ pub enum StoreFault {
         value: i32,
     },
     /// Bytes follow the last block, the first of them at `offset`.
-    Excess { offset: u64 },
+    Excess {
+        offset: u64,
+    },
     /// Memory ran out.
     NoMemory,
 }

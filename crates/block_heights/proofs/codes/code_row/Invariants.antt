@@ -1,4 +1,4 @@
-use Rattle.std.proofs.Common.{◌≡◌, ◌≤◌, length, take, All}
+use Rattle.std.proofs.Common.{◌≡◌, length, take}
 use Rattle.block_heights.specs.Rows.{coded_columns, row_values, IsCodeRow, HasCodes}
 use Rattle.block_heights.proofs.codes.code_row.Given as goal
 

@@ -1,6 +1,5 @@
-use Rattle.std.proofs.Common.{◌≡◌, ◌<◌, ◌≤◌, ◌+◌, ◌-◌, ◌∙◌, ℕ, ℤ, pos, List, length, take, drop, set, get_or, sym, ap, subst, rules, arith, length-drop, length-set}
+use Rattle.std.proofs.Common.{◌≡◌, ◌<◌, ◌≤◌, ◌+◌, ◌∙◌, ℕ, ℤ, List, length, take, drop, ap, subst, arith, length-set}
 use Rattle.std.proofs.lemmas.List.{take_rest, take_all}
-use Rattle.rice_residuals.specs.Code.{IsResidual}
 use Rattle.block_heights.specs.Rows.{row_values, table_values, coded_before, IsCodeRow, HasCodes}
 use Rattle.block_heights.proofs.CodedRows.{before_more, before_mono, table_more, rows_more, rest_length, all_residuals_below}
 use Rattle.block_heights.proofs.codes.code_table.Goals as goal

@@ -1,4 +1,4 @@
-use Rattle.std.proofs.Common.{◌≡◌, ◌≤◌, ◌<◌, ◌+ℤ◌, pos, ℕ, [], get_or, length, take, All}
+use Rattle.std.proofs.Common.{◌≡◌, ℕ, [], get_or, length, take}
 use Rattle.block_heights.specs.Rows.{coded_before, table_values, IsCodeRow, HasCodes}
 use Rattle.block_heights.proofs.codes.code_table.Given as goal
 

@@ -1,4 +1,4 @@
-use Rattle.std.proofs.Common.{◌≡◌, ◌∙◌, sym, arith}
+use Rattle.std.proofs.Common.{arith}
 use Rattle.block_heights.proofs.CodedRows.{before_more}
 use Rattle.block_heights.proofs.codes.count_of.Goals as goal
 

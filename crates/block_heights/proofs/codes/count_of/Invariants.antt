@@ -1,4 +1,4 @@
-use Rattle.std.proofs.Common.{◌≡◌, ◌≤◌, ◌*◌, length}
+use Rattle.std.proofs.Common.{◌≡◌, ◌≤◌, ◌*◌}
 use Rattle.block_heights.specs.Rows.{coded_before}
 use Rattle.block_heights.proofs.codes.count_of.Given as goal
 

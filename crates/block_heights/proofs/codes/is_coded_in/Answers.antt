@@ -1,4 +1,4 @@
-use Rattle.std.proofs.Common.{◌≡◌, ◌+ℤ◌, ◌∙◌, pos, ℤ, rules, arith}
+use Rattle.std.proofs.Common.{◌≡◌, ◌+ℤ◌, ◌∙◌, pos, rules}
 use Rattle.std.specs.Int.{w32}
 use mir.Val.{SFits, to_z}
 use mathlib.Core.Path.{ap₂}

@@ -1,6 +1,5 @@
-use Rattle.std.proofs.Common.{◌≡◌, ◌+ℤ◌, ◌%◌, ◌/◌, ◌<◌, ◌≤◌, ◌∙◌, ℕ, ℤ, pos, ap, rules, arith}
+use Rattle.std.proofs.Common.{◌≡◌, ◌+ℤ◌, ◌%◌, ◌/◌, ◌<◌, ◌∙◌, ℕ, pos, ap, rules, arith}
 use Rattle.std.specs.Int.{w32}
-use Rattle.std.proofs.lemmas.Int.{ints}
 use Rattle.std.proofs.lemmas.Nat.{div_below, mod_below}
 use mir.Val.{SFits, to_z}
 use Rattle.clip_regions.specs.Regions.{columns, rows}

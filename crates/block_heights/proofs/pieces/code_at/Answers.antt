@@ -1,4 +1,4 @@
-use Rattle.std.proofs.Common.{◌≡◌, ◌∙◌, ℤ, pos, [], get_or, sym}
+use Rattle.std.proofs.Common.{◌∙◌, pos, [], get_or, sym}
 use Rattle.std.specs.Int.{w32}
 use Rattle.std.proofs.lemmas.Int.{to_z-of_z}
 use Rattle.block_heights.proofs.CodedRows.{residual_fits}

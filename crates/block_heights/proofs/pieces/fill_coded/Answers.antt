@@ -1,4 +1,4 @@
-use Rattle.std.proofs.Common.{◌≡◌, ◌<◌, ◌∙◌, ℕ, ℤ, pos, length, sym, ap, subst, rules, arith}
+use Rattle.std.proofs.Common.{◌<◌, ◌∙◌, length, rules, arith}
 use mathlib.Core.Path.{ap₂}
 use Rattle.std.specs.Int.{w16}
 use Rattle.std.proofs.lemmas.Int.{to_z-of_z}

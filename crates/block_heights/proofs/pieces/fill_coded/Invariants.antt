@@ -1,4 +1,3 @@
-use Rattle.std.proofs.Common.{◌≡◌, length}
 use Rattle.four_point.specs.Patches.{patch_height}
 use Rattle.block_heights.specs.Rows.{table_code}
 use Rattle.block_heights.specs.Pieces.{IsPieceUpTo, AreNearUpTo, within, coded_height}

@@ -1,4 +1,4 @@
-use Rattle.std.proofs.Common.{◌≡◌, ◌<◌, ◌∙◌, ℤ, length, ap, arith}
+use Rattle.std.proofs.Common.{◌<◌, ◌∙◌, length, arith}
 use mathlib.Core.Path.{ap₂}
 use Rattle.block_heights.specs.Pieces.{within, plain_height}
 use Rattle.block_heights.proofs.Cells.{same16, piece_more}

@@ -1,4 +1,3 @@
-use Rattle.std.proofs.Common.{◌≡◌, length}
 use Rattle.block_heights.specs.Pieces.{IsPieceUpTo, within, plain_height}
 use Rattle.block_heights.proofs.pieces.fill_plain.Given as goal
 

@@ -1,4 +1,4 @@
-use Rattle.std.proofs.Common.{◌≡◌, pos}
+use Rattle.std.proofs.Common.{pos}
 use Rattle.block_heights.specs.Pieces.{IsPieceUpTo}
 use Rattle.block_heights.proofs.pieces.fill_zeros.Given as goal
 

@@ -1,6 +1,6 @@
-use Rattle.std.proofs.Common.{◌≡◌, ◌+ℤ◌, ◌∙◌, ℕ, ℤ, pos, sym, ap, subst, rules, arith}
-use Rattle.std.specs.Int.{w16, w32}
-use Rattle.std.proofs.lemmas.Int.{ints, to_z-of_z}
+use Rattle.std.proofs.Common.{◌≡◌, ◌∙◌, sym, ap, subst, rules}
+use Rattle.std.specs.Int.{w32}
+use Rattle.std.proofs.lemmas.Int.{to_z-of_z}
 use Rattle.std.proofs.lemmas.Bool.{false≢true}
 use mir.Val.{SFits, to_z, of_z}
 use Rattle.four_point.specs.Patches.{patch_height, IsOfBlock}
@@ -81,8 +81,7 @@ returns-then-not-is_near-clause-far c =
     let value_fits : SFits w32 c.value_by-value.result = record { sfits = c.value_by-value.type_inv } in
     let by_code = simp to_z-of_z at c.value_by-value.ensures in
     let value : to_z w32 (of_z w32 c.value_by-value.result) ≡ value_of coarser step i j (code i j) =
-    to_z-of_z w32 c.value_by-value.result value_fits ∙ by_code ∙ ap (value_of coarser step i j) c.code_at-code.ensures.value in
-    (
+    to_z-of_z w32 c.value_by-value.result value_fits ∙ by_code ∙ ap (value_of coarser step i j) c.code_at-code.ensures.value in (
       to_z-of_z w32 i i_fits,
       to_z-of_z w32 j j_fits,
       sym e ∙ c.if-not-contains.false,

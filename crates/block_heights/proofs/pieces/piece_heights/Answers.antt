@@ -1,4 +1,4 @@
-use Rattle.std.proofs.Common.{◌≡◌, ◌∙◌, ◌<◌, ℕ, length, subst}
+use Rattle.std.proofs.Common.{◌∙◌, length, subst}
 use Rattle.block_heights.specs.declared.block.Kind.{Kind}
 use Rattle.block_heights.specs.Decoded.{HasKind}
 use Rattle.block_heights.proofs.Parts.{area_is, small_of_part, small_of_cells, patch_of_part}

@@ -1,4 +1,4 @@
-use Rattle.std.proofs.Common.{◌≡◌, arith}
+use Rattle.std.proofs.Common.{arith}
 use Rattle.std.proofs.lemmas.Int.{ints}
 use Rattle.block_heights.proofs.Cells.{columns_is, rows_is}
 use Rattle.block_heights.proofs.pieces.sides_of.Goals as goal

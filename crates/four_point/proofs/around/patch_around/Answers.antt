@@ -1,4 +1,4 @@
-use Rattle.std.proofs.Common.{◌≡◌, ℕ, ℤ, List, [], pos, ◌+ℤ◌, arith}
+use Rattle.std.proofs.Common.{ℕ, ℤ, List, [], pos, ◌+ℤ◌, arith}
 use Rattle.std.specs.Int.{w32}
 use Rattle.std.proofs.lemmas.Int.{to_z-of_z}
 use Rattle.four_point.proofs.AroundLemmas.{of_seven, IsRow, row_first, row_after, place_itself, patch_predicts}

@@ -1,9 +1,8 @@
-use Rattle.std.proofs.Common.{◌≡◌, ◌/◌, ◌-◌, ◌<◌, ◌≤◌, ◌+ℤ◌, ◌≤ℤ◌, ◌<ℤ◌, ℤ, pos, ⊎_elim, rules, arith}
+use Rattle.std.proofs.Common.{◌+ℤ◌, rules}
 use Rattle.std.specs.Int.{w32}
-use Rattle.std.proofs.lemmas.Int.{ints, to_z-of_z}
-use mir.Val.{SFits, to_z, of_z}
-use Rattle.four_point.specs.Patches.{IsAtMost}
-use Rattle.four_point.proofs.SumLemmas.{same, size_same}
+use Rattle.std.proofs.lemmas.Int.{to_z-of_z}
+use mir.Val.{SFits}
+use Rattle.four_point.proofs.SumLemmas.{size_same}
 use Rattle.four_point.proofs.StepLemmas.{quotient_size}
 use Rattle.four_point.proofs.steps.steps_in.Goals as goal
 
