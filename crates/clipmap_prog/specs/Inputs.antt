@@ -75,7 +75,7 @@ inputs_of tiles = Tiles (record {
 })
 
 -- the same, where the set has no fault
-abbrev pub joined_by : List TileView → Option MosaicFault → Result InputsView Cause
+abbrev joined_by : List TileView → Option MosaicFault → Result InputsView Cause
 joined_by tiles None = Ok (inputs_of tiles)
 joined_by tiles (Some fault) = Err (Mosaic fault)
 

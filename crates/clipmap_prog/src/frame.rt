@@ -61,7 +61,10 @@ pub(crate) fn run_frame<S: Shelf, K: Sink>(
         Ok(inputs) => {
             let FrameWords { k, x, y, .. } = *frame;
             let course = Course::Frame { k, x, y };
-            ended(0, run_course(alloc, &inputs.grid, &course, frame.out, shelf, out))
+            ended(
+                0,
+                run_course(alloc, &inputs.grid, &course, frame.out, shelf, out),
+            )
         }
         Err(Stop::Refused(fault)) => ended(2, write_fault(alloc, out, fault)),
         Err(Stop::Halted(halt)) => Err(halt),

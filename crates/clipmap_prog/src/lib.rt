@@ -16,6 +16,8 @@ mod run;
 #[cfg(test)]
 mod tests;
 mod tile_files;
+#[cfg(test)]
+mod tile_tests;
 mod top;
 
 pub use halt::Halt;

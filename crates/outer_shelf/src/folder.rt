@@ -77,12 +77,13 @@ fn is_want_of_memory(error: &io::Error) -> bool {
     error.kind() == ErrorKind::OutOfMemory && error.raw_os_error().is_none()
 }
 
-// Opens a plain file, or what a link leads to where that is one.
-fn open_plain<R: Files>(rt: &R, name: &str) -> io::Result<R::File> {
-    if !fs::metadata(rt, name)?.is_file() {
+// How many bytes a plain file says that it has, or what a link leads to where that is one. Nothing is opened.
+fn plain_length<R: Files>(rt: &R, name: &str) -> io::Result<u64> {
+    let there = fs::metadata(rt, name)?;
+    if !there.is_file() {
         return Err(io::Error::from(ErrorKind::InvalidInput));
     }
-    fs::open(rt, name)
+    Ok(there.len())
 }
 
 // Reads once into the chunk, and again where the read was interrupted.
@@ -102,13 +103,19 @@ fn read_some<F: Read>(file: &mut F, chunk: &mut [u8]) -> io::Result<usize>
     Err(io::Error::from(ErrorKind::Interrupted))
 }
 
-// The bytes of a file, of which at most one more than the limit is read.
-fn read_past_limit<F: Read>(file: &mut F, alloc: Global, limit: u64) -> io::Result<Vec<u8>>
+// The bytes of a file, of which at most one more than the limit is read. Room is made at once for as many as are
+// expected; where there are more, or fewer, that many are read all the same.
+fn read_past_limit<F: Read>(
+    file: &mut F,
+    alloc: Global,
+    expected: u64,
+    limit: u64,
+) -> io::Result<Vec<u8>>
     ensures front { IfOk result (λ bytes. IfSome (F.remaining file.old) (λ rest. bytes.items ≡ take (one_more limit) rest)) }
     ensures taken { TakesFront (one_more limit) (F.remaining file.old) (F.remaining file.new) }
 {
     let most = limit.saturating_add(1);
-    let mut bytes = Vec::new(alloc);
+    let mut bytes = Vec::with_capacity(alloc, expected.min(most) as usize)?;
     let mut chunk = [0u8; CHUNK];
     for _ in 0..u64::MAX {
         let room = most - bytes.len() as u64;
@@ -122,6 +129,13 @@ fn read_past_limit<F: Read>(file: &mut F, alloc: Global, limit: u64) -> io::Resu
         bytes.extend_from_slice(&chunk[..count])?;
     }
     Err(io::Error::from(ErrorKind::Interrupted))
+}
+
+// The bytes of the plain file of that name, as far as one past the limit.
+fn read_plain<R: Files>(rt: &R, alloc: Global, name: &str, limit: u64) -> io::Result<Vec<u8>> {
+    let length = plain_length(rt, name)?;
+    let mut file = fs::open(rt, name)?;
+    read_past_limit(&mut file, alloc, length, limit)
 }
 
 // What a fetch that read these bytes answers.
@@ -209,13 +223,9 @@ impl<R: Files + Alloc> Shelf for FolderShelf<'_, R> {
 
     /// Reads at most one byte more than the limit: that many is the length of a file that is too long.
     fn fetch(&mut self, alloc: Global, name: &str, limit: u64) -> Fetched {
-        let mut file = match open_plain(self.rt, name) {
-            Ok(file) => file,
-            Err(error) if error.kind() == ErrorKind::NotFound => return Fetched::Absent,
-            Err(error) => return self.failed_fetch(&error),
-        };
-        match read_past_limit(&mut file, alloc, limit) {
+        match read_plain(self.rt, alloc, name, limit) {
             Ok(bytes) => found(bytes, limit),
+            Err(error) if error.kind() == ErrorKind::NotFound => Fetched::Absent,
             Err(error) => self.failed_fetch(&error),
         }
     }

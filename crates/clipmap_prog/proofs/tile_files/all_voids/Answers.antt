@@ -1,6 +1,6 @@
-use Rattle.std.proofs.Common.{◌≡◌, ℕ, ◌+◌, ◌≤◌, ◌*◌, ap, ◌∙◌, sym, sum_by, take, get_or, arith}
+use Rattle.std.proofs.Common.{◌≡◌, ℕ, ◌+◌, ap, sym, sum_by, take, get_or, arith}
 use Rattle.std.proofs.lemmas.List.Sums.{fold_more}
-use Rattle.hgt_tiles.specs.TileView.{TileView, most_voids}
+use Rattle.hgt_tiles.specs.TileView.{TileView}
 use Rattle.clipmap_prog.proofs.tile_files.all_voids.Goals as goal
 
 pub loop-tile-preserved : goal.loop-tile-preserved

@@ -2,8 +2,6 @@ use Rattle.std.proofs.Common.{◌≡◌, ◌+◌, ◌∷◌, [], ◌++◌, List,
 use Rattle.std.proofs.lemmas.List.{take_all}
 use Rattle.outer_shelf.specs.Outside.{Files}
 use Rattle.clipmap_prog.specs.declared.tile_files.Named.{Named}
-use Rattle.clipmap_prog.specs.Inputs.{tile_reading, named_view}
-use Rattle.clipmap_prog.specs.Reading.{each_of}
 use Rattle.clipmap_prog.specs.Runs.{CallsWithin}
 use Rattle.clipmap_prog.proofs.Lists.{of_ok}
 use Rattle.clipmap_prog.proofs.Fetching.{always_some, fetched_of, next_found, next_stopped, next_calls, last_calls, no_calls, stopped_later}

@@ -9,7 +9,7 @@ abbrev pub invariant-loop-one : goal.invariant-loop-one
 invariant-loop-one g l = record {
   found : IfSome (g.S.Shelf.told l.initial.shelf).files (λ files. (each_of (tile_reading files) (map named_view (take l.one-index l.named))).found ≡ Ok l.tiles.items);
   calls : IfSome (g.S.Shelf.told l.initial.shelf).files
-  (λ files. CallsWithin (each_of (tile_reading files) (map named_view (take l.one-index l.named))).fetches (g.S.Shelf.told l.initial.shelf).calls (g.S.Shelf.told l.shelf).calls);
+      (λ files. CallsWithin (each_of (tile_reading files) (map named_view (take l.one-index l.named))).fetches (g.S.Shelf.told l.initial.shelf).calls (g.S.Shelf.told l.shelf).calls);
   files_stay : (g.S.Shelf.told l.shelf).files ≡ (g.S.Shelf.told l.initial.shelf).files;
   faults_stay : (g.S.Shelf.told l.initial.shelf).faults ≤ (g.S.Shelf.told l.shelf).faults;
   all : vec_len l.tiles ≡ l.one-index;

@@ -1,4 +1,3 @@
-use Rattle.std.proofs.Common.{◌≡◌, ◌∙◌, sym, ap}
 use Rattle.clipmap_prog.proofs.Fetching.{named_found, named_stopped, named_calls}
 use Rattle.clipmap_prog.proofs.tile_files.read_named.Goals as goal
 

@@ -2,6 +2,3 @@ use Rattle.outer_shelf.proofs.folder.FolderShelfShelf.fetch.Goals as goal
 
 pub returns-in-Err-2-clause-in_limit : goal.returns-in-Err-2-clause-in_limit
 returns-in-Err-2-clause-in_limit g c = c.failed_fetch.ensures.in_limit c.args.limit
-
-pub returns-clause-in_limit : goal.returns-clause-in_limit
-returns-clause-in_limit g c = c.failed_fetch-in-Err-read_past_limit.ensures.in_limit c.args.limit
