@@ -13,7 +13,8 @@ use Rattle.plan_laws.specs.Drawn.{AreShown}
 abbrev pub AreFilled : ℕ → List Region → Type 0
 AreFilled k filled =
     (level : ℕ) → level < length filled →
-    (is_empty (slice_index_or filled level empty_region) ≡ true) ⊎ IsShown k level (slice_index_or filled level empty_region)
+    (is_empty (slice_index_or filled level empty_region) ≡ true)
+    ⊎ IsShown k level (slice_index_or filled level empty_region)
 
 -- a filled region is empty or lies near the mosaic's corner
 abbrev pub IsNearOrEmpty : Region → Type 0
@@ -28,8 +29,8 @@ pub record IsWide (r : Region) : Type 0 where
 abbrev pub IsWideOrEmpty : Region → Type 0
 IsWideOrEmpty r = (r ≡ empty_region) ⊎ IsWide r
 
--- for K the regions are those of 1 to 12 levels: each is empty or lies with even corners in a window of its own level,
--- no corner of it is farther from zero than 2^24, its sides are 2 or more, and each finer one lies a margin inside the coarser
+-- for K the regions are those of 1 to 12 levels: each is empty or lies with even corners in a window of its own level, no
+-- corner of it is farther from zero than 2^24, its sides are 2 or more, and each finer one lies a margin inside the next
 pub record AreDrawn (k : ℕ) (regions : List Region) : Type 0 where
   pub many : IsLevelCount (length regions)
   pub shown : AreShown k regions
@@ -51,7 +52,8 @@ pub record IsTwelve (count : ℕ) (regions : List Region) : Type 0 where
   pub active : AreActive (take count regions)
 
 -- so the first ones tell all twelve
-pub restored : (count : ℕ) (regions : List Region) → IsTwelve count regions → take count regions ++ replicate (12 - length (take count regions)) empty_region ≡ regions
+pub restored : (count : ℕ) (regions : List Region) → IsTwelve count regions →
+    take count regions ++ replicate (12 - length (take count regions)) empty_region ≡ regions
 restored count regions h =
     ap (λ (n : ℕ). take count regions ++ replicate (12 - n) empty_region) h.counted
     ∙ ap (λ (others : List Region). take count regions ++ others) (sym h.unused)

@@ -23,8 +23,8 @@ is_point_outside space x height z = int_lt (corner_value space x height z) (pos 
 unfoldable pub is_box_outside : HalfSpace → Bounds → Bool
 is_box_outside space box =
     let out = is_point_outside space in
-    ((out box.x0 box.low box.z0 && out box.x1 box.low box.z0) && (out box.x0 box.high box.z0 && out box.x1 box.high box.z0))
-    && ((out box.x0 box.low box.z1 && out box.x1 box.low box.z1) && (out box.x0 box.high box.z1 && out box.x1 box.high box.z1))
+    let edge = λ (height z : ℤ). out box.x0 height z && out box.x1 height z in
+    (edge box.low box.z0 && edge box.high box.z0) && (edge box.low box.z1 && edge box.high box.z1)
 
 -- the box of the part lies outside no half-space of the view
 unfoldable pub is_kept : List HalfSpace → Part → Bool
@@ -61,7 +61,8 @@ parts_text number x y actives lists parts =
     let none : Vertex = record { x = pos 0; z = pos 0; height = pos 0 } in
     head_text number x y actives
     ++ kept_line (length parts) (length lists.parts)
-    ++ flat_map (λ place. vertex_line (slice_index_or lists.vertices place none)) (named_places triangles (length lists.vertices))
+    ++ flat_map (λ place. vertex_line (slice_index_or lists.vertices place none))
+    (named_places triangles (length lists.vertices))
     ++ flat_map (λ triangle. triangle_line (map (new_place triangles) triangle)) triangles
 
 -- the text of a frame with the parts that a view keeps

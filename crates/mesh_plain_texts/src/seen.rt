@@ -151,7 +151,9 @@ pub fn seen_text(
     view: &[HalfSpace],
 ) -> Result<Vec<u8>, NoMemory>
     requires few { length vertices.now < 2 ^ 31 }
-    ensures value { IfOk result (λ text. text.items ≡ text_of_seen head.now.number head.now.x head.now.y actives.now (record { vertices = vertices.now; triangles = triangles.now; parts = parts.now }) view.now) }
+    ensures value { IfOk result (λ text. text.items
+        ≡ text_of_seen head.now.number head.now.x head.now.y actives.now
+        (record { vertices = vertices.now; triangles = triangles.now; parts = parts.now }) view.now) }
 {
     let kept = kept_parts(alloc, parts, view)?;
     let seen = triangles_of_parts(alloc, triangles, kept.as_slice())?;

@@ -36,7 +36,8 @@ fn append_levels(text: &mut Vec<u8>, digits: &mut Buffer, actives: &Actives) -> 
 
 // Appends the lines at the head.
 fn append_head(text: &mut Vec<u8>, digits: &mut Buffer, header: &Header) -> Result<(), NoMemory>
-    ensures { OnOk result (text.new.items ≡ text.old.items ++ head_text header.now.number header.now.x header.now.y header.now.actives) }
+    ensures { OnOk result (text.new.items
+        ≡ text.old.items ++ head_text header.now.number header.now.x header.now.y header.now.actives) }
 {
     append_frame(text, digits, header.number)?;
     append_viewer(text, digits, header.x, header.y)?;
@@ -75,7 +76,8 @@ fn append_triangles(
 /// region as comments, then a line `v x height y` for each vertex, its height in metres with five digits
 /// after the point, and a line `f a b c` for each triangle, its vertices counted from 1.
 pub fn frame_text(alloc: Global, mesh: &Mesh, header: &Header) -> Result<Vec<u8>, NoMemory>
-    ensures text { IfOk result (λ text. text.items ≡ text_of_frame header.now.number header.now.x header.now.y header.now.actives mesh.now) }
+    ensures text { IfOk result (λ text. text.items
+        ≡ text_of_frame header.now.number header.now.x header.now.y header.now.actives mesh.now) }
 {
     let mut text = Vec::new(alloc);
     let mut digits = Buffer::new();
