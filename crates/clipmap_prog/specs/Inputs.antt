@@ -1,5 +1,6 @@
 -- What INPUT words come to: tiles, read from the files of their names.
-use Rattle.std.specs.Prelude.{ℕ, List, [], ◌∷◌, length, map as list_map, sum_by, Option, Some, None, Result, Ok, Err, nat_lt, if◌then◌else◌}
+use Rattle.std.specs.Prelude.{ℕ, List, [], ◌∷◌, length, map as list_map, sum_by, nat_lt, if◌then◌else◌}
+use Rattle.std.specs.Prelude.{Option, Some, None, Result, Ok, Err}
 use Rattle.std.specs.FinMap as map
 use Rattle.outer_shelf.specs.Outside.{Files}
 use Rattle.terrain_model.specs.Terrain.{Terrain}
@@ -110,4 +111,9 @@ named_view named = record { name = named.name.now; corner = named.corner }
 
 -- inputs as contracts see them
 abbrev pub inputs_view : Inputs → InputsView
-inputs_view inputs = Tiles (record { terrain = inputs.grid; number = inputs.number; side = inputs.side; voids = inputs.voids })
+inputs_view inputs = Tiles (record {
+  terrain = inputs.grid;
+  number = inputs.number;
+  side = inputs.side;
+  voids = inputs.voids;
+})

@@ -60,8 +60,8 @@ fn tile_line(alloc: Global, name: &str, fault: TileFault) -> Result<String, Allo
     }
 }
 
-/// The line of tiles that make no terrain together. Every command has a tile, and want of memory is no refusal: these two
-/// have no line.
+/// The line of tiles that make no terrain together. Every command has a tile, and want of memory is no refusal: these
+/// two have no line.
 fn mosaic_line(alloc: Global, fault: MosaicFault) -> Result<String, AllocError>
     ensures line { IfOk result (λ line. string_bytes line ≡ mosaic_line fault) }
 {

@@ -1,5 +1,6 @@
 //! HGT tiles by the names of their files: names are judged, files fetched and read, and the tiles joined.
-ghost use Rattle.std.specs.Prelude.{◌≡◌, ◌+◌, ◌≤◌, ◌++◌, ◌∷◌, [], IfOk, OnOk, IfSome, Some, length, map as list_map, option_map, string_bytes, sum_by, vec_len};
+ghost use Rattle.std.specs.Prelude.{◌≡◌, ◌+◌, ◌≤◌, ◌++◌, ◌∷◌, [], IfOk, OnOk, IfSome, Some};
+ghost use Rattle.std.specs.Prelude.{length, map as list_map, option_map, string_bytes, sum_by, vec_len};
 ghost use Rattle.std.specs.FinMap as finite;
 ghost use Rattle.outer_shelf.specs.Counts.{Rose, one_more};
 ghost use Rattle.terrain_model.specs.Mosaic.{first_side};

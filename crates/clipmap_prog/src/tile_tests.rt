@@ -42,8 +42,8 @@ fn place(x: usize, z: usize) -> usize {
         .saturating_add(6)
 }
 
-/// Four tiles round (0, 0): south of the equator and west of the meridian too. The seams belong to the north and then to
-/// the west.
+/// Four tiles round (0, 0): south of the equator and west of the meridian too. The seams belong to the north and then
+/// to the west.
 #[test]
 fn four_corners(rt: HostRuntime) {
     let (one, two, three, four) = (flat(1), flat(2), flat(3), flat(4));
@@ -250,8 +250,8 @@ fn failing_fetches(rt: HostRuntime) {
     }
 }
 
-/// Tiles of side 1201 that lie too far apart: 171 * 1200 + 1 columns by 81 * 1200 + 1 rows, and 360 * 1200 + 1 columns by
-/// 1201 rows.
+/// Tiles of side 1201 that lie too far apart: 171 * 1200 + 1 columns by 81 * 1200 + 1 rows, and 360 * 1200 + 1 columns
+/// by 1201 rows.
 #[test]
 fn too_large_sets(rt: HostRuntime) {
     let Ok(tile) = sea(rt.alloc()) else {
