@@ -44,3 +44,8 @@ returns-clause-others c =
     let home : is_home (grid_of c.self.inside.k c.self.inside.tiles.items) c.args.tile ≡ true = subst (λ (g : Grid). is_home g c.args.tile ≡ true) (sym c.self.view_is) c.requires in
     let inside : c.number_of-number.result < length c.self.inside.tiles.items = omega (arith, c.number_of-number.ensures.inside, c.self.invariant.1) in
     same_but c.self.inside.k c.self.inside.tiles.items c.args.tile c.number_of-number.result (home_has (grid_of c.self.inside.k c.self.inside.tiles.items) c.args.tile home) c.number_of-number.ensures.value inside c.take-out.new.self c.args.self.now c.self.view_is
+
+pub returns-clause-there : goal.returns-clause-there
+returns-clause-there c =
+    let home : is_home (grid_of c.self.inside.k c.self.inside.tiles.items) c.args.tile ≡ true = subst (λ (g : Grid). is_home g c.args.tile ≡ true) (sym c.self.view_is) c.requires in
+    home_has (grid_of c.self.inside.k c.self.inside.tiles.items) c.args.tile home
