@@ -1,4 +1,4 @@
-use Rattle.std.proofs.Common.{pos, negsuc, refl}
+use Rattle.std.proofs.Common.{negsuc, refl}
 use Rattle.clip_regions.specs.Regions.{is_empty, holds, columns, rows, area}
 use Rattle.plan_model.specs.Blocks.{block_cells}
 use Rattle.torus_grid.proofs.worked.a_tile_goes_out_and_comes_home.Goals as goal
