@@ -138,7 +138,7 @@ impl Pins {
         requires pass { pass < 16 }
         requires free { slice_index_or self.old.pins pass None ≡ None }
         ensures { self.new ≡ record self.old {
-            pins = slice_set self.old.pins pass (Some (record { frame = frame; region = region }))
+          pins = slice_set self.old.pins pass (Some (record { frame = frame; region = region }));
         } }
     {
         change(self.counts.as_mut_slice(), self.k, region, true);

@@ -1,11 +1,10 @@
 -- The height of a cell of a torus, and the heights of the cells from one on to the end of its tile.
-use Rattle.std.proofs.Common.{◌≡◌, ℕ, zero, suc, ◌+◌, ◌-◌, ◌<◌, ◌≤◌, ℤ, pos, ◌+ℤ◌, List, [], ◌∷◌, map, Option, Some, None, refl, ap, sym, ◌∙◌, arith}
+use Rattle.std.proofs.Common.{◌≡◌, ℕ, zero, suc, ◌+◌, ◌-◌, ◌<◌, ◌≤◌, ℤ, pos, ◌+ℤ◌, List, ◌∷◌, map, Option, Some, refl, ap, sym, ◌∙◌, arith}
 use Rattle.std.specs.List.{range_with_len}
 use mathlib.Core.Path.{ap₂}
 use Rattle.clip_regions.specs.FloorDivision.{floor_div, floor_rem}
 use Rattle.plan_model.specs.Blocks.{tile_of, tile_of_cell}
 use Rattle.plan_model.specs.Laws.{OneTileABlock}
-use Rattle.plan_model.specs.declared.tiles.TileId.{TileId}
 use Rattle.torus_grid.specs.Places.{tile_height}
 use Rattle.torus_grid.specs.Grids.{Grid, tile_at, height_in, height_at}
 use Rattle.torus_grid.proofs.Numbers.{eight_below, div_on}

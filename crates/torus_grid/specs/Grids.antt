@@ -1,5 +1,5 @@
 -- The heights of one level: those of each torus tile that is at home. A tile that is out has its heights with it.
-use Rattle.std.specs.Prelude.{◌≡◌, ℕ, ◌+◌, ◌*◌, Bool, ◌&&◌, nat_lt, ℤ, pos, List, replicate, slice_index_or, Option, Some, None, is_some, IsTrue, if◌then◌else◌}
+use Rattle.std.specs.Prelude.{◌≡◌, ℕ, ◌+◌, ◌*◌, Bool, ◌&&◌, nat_lt, ℤ, pos, List, replicate, slice_index_or, Option, Some, None, is_some, if◌then◌else◌}
 use Rattle.plan_model.specs.Blocks.{tiles_per_side, tile_of_cell}
 use Rattle.plan_model.specs.declared.tiles.TileId.{TileId}
 use Rattle.torus_grid.specs.Places.{tile_height}

@@ -4,7 +4,6 @@ use Rattle.clip_regions.specs.declared.region.Region.{Region}
 use Rattle.clip_regions.specs.Regions.{contains, cells}
 use Rattle.plan_model.specs.Blocks.{tile_of_cell, wrapped_place}
 use Rattle.torus_grid.specs.Places.{place_in_tile, place_among}
-use Rattle.torus_grid.specs.Grids.{tile_at, new_grid}
 
 -- two cells of one tile that have one place in it have one wrapped place
 abbrev pub PlacesInTiles : Type 0

@@ -144,6 +144,7 @@ impl Torus {
     pub fn take(&mut self, tile: TileId) -> Box<Tile>
         requires { IsTrue (is_home self.old tile) }
         ensures heights { tile_at self.old tile ≡ Some result.value }
+        ensures there { IsTrue (has_tile self.new.k tile) }
         ensures out { tile_at self.new tile ≡ None }
         ensures others { SameBut tile self.old self.new }
     {

@@ -1,4 +1,4 @@
-use Rattle.std.proofs.Common.{◌≡◌, ◌+◌, ℤ, pos, get_or, rules, arith}
+use Rattle.std.proofs.Common.{◌+◌, pos, get_or, rules, arith}
 use Rattle.std.proofs.lemmas.Int.{to_z-of_z}
 use mir.Syntax.{w16}
 use mir.Val.{SFits, of_z, to_z}

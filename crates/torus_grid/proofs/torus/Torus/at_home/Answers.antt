@@ -1,10 +1,8 @@
-use Rattle.std.proofs.Common.{◌≡◌, true, ◌<◌, length, get_or, Option, Some, None, ap, sym, ◌∙◌, subst, arith}
+use Rattle.std.proofs.Common.{◌≡◌, true, ◌<◌, length, None, ap, sym, ◌∙◌, arith}
 use Rattle.std.specs.Prelude.{is_some}
-use Rattle.std.proofs.lemmas.Bool.{true≢false}
 use Rattle.std.proofs.lemmas.List.{get_or_read}
-use Rattle.torus_grid.specs.Grids.{Grid, tile_at, is_home, has_tile, SameBut}
-use Rattle.torus_grid.specs.Shown.{shown}
-use Rattle.torus_grid.proofs.TilesAt.{grid_of, home_has, column_of, row_of, tile_is, tile_set, same_but, home_is, away}
+use Rattle.torus_grid.specs.Grids.{Grid, is_home, has_tile}
+use Rattle.torus_grid.proofs.TilesAt.{grid_of, column_of, row_of, home_is, away}
 use Rattle.torus_grid.proofs.torus.Torus.at_home.Goals as goal
 
 pub number_of-requires-clause-column : goal.number_of-requires-clause-column

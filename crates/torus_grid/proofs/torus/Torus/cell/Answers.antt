@@ -1,15 +1,13 @@
-use Rattle.std.proofs.Common.{◌≡◌, ◌≤◌, true, ℕ, ◌-◌, ℤ, pos, ◌+ℤ◌, map, Some, ap, sym, ◌∙◌, subst, arith}
-use Rattle.std.specs.List.{range_with_len}
+use Rattle.std.proofs.Common.{◌≡◌, true, Some, ap, sym, ◌∙◌, subst}
 use Rattle.std.proofs.lemmas.Int.{to_z-of_z}
 use mathlib.Core.Path.{ap₂}
 use mir.Syntax.{w16}
-use Rattle.clip_regions.specs.FloorDivision.{floor_rem}
 use Rattle.plan_model.specs.Blocks.{tile_of_cell}
 use Rattle.plan_model.specs.declared.tiles.TileId.{TileId}
 use Rattle.torus_grid.specs.Places.{tile_height}
 use Rattle.torus_grid.specs.Grids.{Grid, tile_at, is_home}
 use Rattle.torus_grid.proofs.Numbers.{read_back}
-use Rattle.torus_grid.proofs.RowHeights.{height_is, row_heights}
+use Rattle.torus_grid.proofs.RowHeights.{height_is}
 use Rattle.torus_grid.proofs.torus.Torus.cell.Goals as goal
 
 pub tile-requires : goal.tile-requires

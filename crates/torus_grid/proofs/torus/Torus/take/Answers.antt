@@ -1,10 +1,9 @@
-use Rattle.std.proofs.Common.{◌≡◌, true, ◌<◌, length, get_or, Option, Some, None, ap, sym, ◌∙◌, subst, arith}
+use Rattle.std.proofs.Common.{◌≡◌, true, ◌<◌, length, None, ap, sym, ◌∙◌, subst, arith}
 use Rattle.std.specs.Prelude.{is_some}
-use Rattle.std.proofs.lemmas.Bool.{true≢false}
 use Rattle.std.proofs.lemmas.List.{get_or_read}
-use Rattle.torus_grid.specs.Grids.{Grid, tile_at, is_home, has_tile, SameBut}
+use Rattle.torus_grid.specs.Grids.{Grid, tile_at, is_home}
 use Rattle.torus_grid.specs.Shown.{shown}
-use Rattle.torus_grid.proofs.TilesAt.{grid_of, home_has, column_of, row_of, tile_is, tile_set, same_but, home_is, away}
+use Rattle.torus_grid.proofs.TilesAt.{grid_of, home_has, column_of, row_of, tile_is, tile_set, same_but, home_is}
 use Rattle.torus_grid.proofs.torus.Torus.take.Goals as goal
 
 pub number_of-number-requires-clause-column : goal.number_of-number-requires-clause-column
@@ -44,3 +43,8 @@ returns-clause-others c =
     let home : is_home (grid_of c.self.inside.k c.self.inside.tiles.items) c.args.tile ≡ true = subst (λ (g : Grid). is_home g c.args.tile ≡ true) (sym c.self.view_is) c.requires in
     let inside : c.number_of-number.result < length c.self.inside.tiles.items = omega (arith, c.number_of-number.ensures.inside, c.self.invariant.1) in
     same_but c.self.inside.k c.self.inside.tiles.items c.args.tile c.number_of-number.result (home_has (grid_of c.self.inside.k c.self.inside.tiles.items) c.args.tile home) c.number_of-number.ensures.value inside c.take-out.new.self c.args.self.now c.self.view_is
+
+pub returns-clause-there : goal.returns-clause-there
+returns-clause-there c =
+    let home : is_home (grid_of c.self.inside.k c.self.inside.tiles.items) c.args.tile ≡ true = subst (λ (g : Grid). is_home g c.args.tile ≡ true) (sym c.self.view_is) c.requires in
+    home_has (grid_of c.self.inside.k c.self.inside.tiles.items) c.args.tile home
