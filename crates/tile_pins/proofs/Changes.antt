@@ -1,10 +1,9 @@
 -- Counts that are changed one tile after another.
-use Rattle.std.proofs.Common.{◌≡◌, ℕ, ◌+◌, ◌-◌, ◌*◌, ◌/◌, ◌%◌, ◌<◌, ◌≤◌, Bool, true, false, cond, ℤ, pos, ◌≤ℤ◌, ◌<ℤ◌, List, [], ◌∷◌, ◌++◌, length, get_or, set, take, fold, flat_map, replicate, Option, Some, None, refl, ap, sym, ◌∙◌, subst, inl, inr, arith, length-set, get_or-set_same, get_or-set_other, zero-add}
-use Rattle.std.specs.List.{count_by, sum_by}
+use Rattle.std.proofs.Common.{◌≡◌, ℕ, ◌+◌, ◌*◌, ◌<◌, ◌≤◌, Bool, false, cond, pos, ◌≤ℤ◌, ◌<ℤ◌, List, [], ◌∷◌, ◌++◌, length, get_or, fold, flat_map, Option, Some, None, refl, ap, sym, ◌∙◌, inl, inr, arith, zero-add}
+use Rattle.std.specs.List.{count_by}
 use Rattle.std.proofs.lemmas.Int.{ints, by_lt_z}
 use Rattle.std.proofs.lemmas.Bool.{cases_Bool}
-use Rattle.std.proofs.lemmas.List.{flat_map_more, take_more, get_or-replicate}
-use Rattle.std.proofs.lemmas.List.Sums.{sum_by-set, sum_by-append, count_by-le-length, fold-append}
+use Rattle.std.proofs.lemmas.List.Sums.{sum_by-append}
 use Rattle.std.proofs.lemmas.Nat.{mul-add-lt, mod-mul-add, div-mul-add}
 use mathlib.Core.Path.{ap₂}
 use Rattle.clip_regions.specs.declared.region.Region.{Region}
@@ -12,8 +11,8 @@ use Rattle.plan_model.specs.Blocks.{tiles_per_side}
 use Rattle.plan_model.specs.Tiles.{meets_tile, lesser}
 use Rattle.plan_model.specs.declared.tiles.TileId.{TileId}
 use Rattle.tile_pins.specs.declared.pin.Pin.{Pin}
-use Rattle.tile_pins.specs.Pinned.{Pinned, frame_on, is_on, first_frame}
-use Rattle.tile_pins.specs.Counts.{numbered, changed_by, AreChanged, AreCounted}
+use Rattle.tile_pins.specs.Pinned.{frame_on, is_on, first_frame}
+use Rattle.tile_pins.specs.Counts.{numbered, changed_by, AreCounted}
 
 pub by_order : {P : Type 0} (a b : ℕ) → (a ≤ b → P) → (b < a → P) → P
 by_order a b f g =

@@ -21,11 +21,13 @@ changed_by true false count = count - 1
 -- the counts of a torus after a region was pinned, or let go
 pub record AreChanged (k : ℕ) (region : Region) (more : Bool) (old new : List ℕ) : Type 0 where
   pub many : length new ≡ length old
-  pub each : (n : ℕ) → n < length old → slice_index new n ≡ changed_by (meets_tile k region (numbered (tiles_per_side k) n)) more (slice_index old n)
+  pub each : (n : ℕ) → n < length old →
+      slice_index new n ≡ changed_by (meets_tile k region (numbered (tiles_per_side k) n)) more (slice_index old n)
 
 -- the counts of a torus are those of the pins on each tile
 pub record AreCounted (k : ℕ) (pins : List (Option Pin)) (counts : List ℕ) : Type 0 where
   pub size : IsSize k
   pub passes : length pins ≡ 16
   pub many : length counts ≡ tiles_per_side k * tiles_per_side k
-  pub each : (n : ℕ) → n < length counts → slice_index counts n ≡ count_by (is_on k (numbered (tiles_per_side k) n)) pins
+  pub each : (n : ℕ) → n < length counts →
+      slice_index counts n ≡ count_by (is_on k (numbered (tiles_per_side k) n)) pins

@@ -1,7 +1,5 @@
 -- The regions that frames pin on one level, by the pass that draws the frame.
-use Rattle.std.specs.Prelude.{◌≡◌, ℕ, ◌+◌, ◌*◌, ◌<◌, Bool, false, List, [], ◌∷◌, replicate, length, slice_index, flat_map, fold, count_by, Option, Some, None, if◌then◌else◌}
-use Rattle.plan_model.specs.Limits.{IsSize}
-use Rattle.plan_model.specs.Blocks.{tiles_per_side}
+use Rattle.std.specs.Prelude.{ℕ, Bool, false, List, [], ◌∷◌, replicate, flat_map, fold, Option, Some, None, if◌then◌else◌}
 use Rattle.plan_model.specs.Tiles.{meets_tile, lesser}
 use Rattle.plan_model.specs.declared.tiles.TileId.{TileId}
 use Rattle.tile_pins.specs.declared.pin.Pin.{Pin}

@@ -1,6 +1,7 @@
 //! The pins of one level.
 
-ghost use Rattle.std.specs.Prelude.{◌≡◌, ℕ, ◌*◌, ◌<◌, ◌≤◌, true, false, Some, None, IfOk, IsSome, length, replicate, slice_set, slice_index, slice_index_or, fold, flat_map, if◌then◌else◌};
+ghost use Rattle.std.specs.Prelude.{◌≡◌, ℕ, ◌*◌, ◌<◌, ◌≤◌, true, false, Some, None, IfOk, IsSome, if◌then◌else◌};
+ghost use Rattle.std.specs.Prelude.{length, replicate, slice_set, slice_index, slice_index_or, fold, flat_map};
 ghost use Rattle.plan_model.specs.Limits.{IsSize};
 ghost use Rattle.plan_model.specs.Blocks.{tiles_per_side};
 ghost use Rattle.plan_model.specs.Tiles.{meets_tile, lesser};
@@ -69,8 +70,10 @@ fn numbered(side: u8, n: usize) -> TileId
 fn change(counts: &mut [u8], k: u8, region: Region, more: bool)
     requires size { IsSize k }
     requires many { length counts.old ≡ tiles_per_side k * tiles_per_side k }
-    requires room { (n : ℕ) → meets_tile k region (numbered (tiles_per_side k) n) ≡ true → more ≡ true → slice_index counts.old n < 255 }
-    requires some { (n : ℕ) → n < length counts.old → meets_tile k region (numbered (tiles_per_side k) n) ≡ true → more ≡ false → 0 < slice_index counts.old n }
+    requires room { (n : ℕ) → meets_tile k region (numbered (tiles_per_side k) n) ≡ true → more ≡ true →
+        slice_index counts.old n < 255 }
+    requires some { (n : ℕ) → n < length counts.old → meets_tile k region (numbered (tiles_per_side k) n) ≡ true →
+        more ≡ false → 0 < slice_index counts.old n }
     ensures { AreChanged k region more counts.old counts.new }
 {
     let side = tiles_per_side(k);

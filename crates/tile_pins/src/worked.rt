@@ -11,6 +11,7 @@ fn is_shared<T: Sync>(_value: &T) {}
 fn moves<T: Send>(_value: &T) {}
 
 #[test]
+#[tactic(auto, unfolding(crate::specs::Pinned::no_pins))]
 fn the_least_of_three_frames_and_then_the_next(rt: HostRuntime) -> Result<(), Fail> {
     let east = Region {
         x0: 8,
