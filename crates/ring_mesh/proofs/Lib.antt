@@ -1,3 +1,6 @@
 pub mod Gaps
 pub mod Lists
 pub mod Boxes
+pub mod Wider
+pub mod Blocks
+pub mod Added
