@@ -82,11 +82,12 @@ blocks active gap near cut =
     let l = cut.along in
     let s = cut.south in
     let across : active.x0 ≤ℤ active.x1 = omega (arith, ints, w, a, e) in
-    let along : active.y0 ≤ℤ active.y1 = omega (arith, ints, n, l, s) in
-    (between active (north_block active gap) near (omega (arith, ints)) across across (omega (arith, ints)) (omega (arith, ints)) along n (omega (arith, ints, l, s)),
-    between active (west_block active gap) near (omega (arith, ints)) across w (omega (arith, ints, a, e)) n (omega (arith, ints, l, s)) (omega (arith, ints, n, l)) s,
-    between active (east_block active gap) near (omega (arith, ints, w, a)) e across (omega (arith, ints)) n (omega (arith, ints, l, s)) (omega (arith, ints, n, l)) s,
-    between active (south_block active gap) near (omega (arith, ints)) across across (omega (arith, ints)) (omega (arith, ints, n, l)) s along (omega (arith, ints)))
+    let along : active.y0 ≤ℤ active.y1 = omega (arith, ints, n, l, s) in (
+      between active (north_block active gap) near (omega (arith, ints)) across across (omega (arith, ints)) (omega (arith, ints)) along n (omega (arith, ints, l, s)),
+      between active (west_block active gap) near (omega (arith, ints)) across w (omega (arith, ints, a, e)) n (omega (arith, ints, l, s)) (omega (arith, ints, n, l)) s,
+      between active (east_block active gap) near (omega (arith, ints, w, a)) e across (omega (arith, ints)) n (omega (arith, ints, l, s)) (omega (arith, ints, n, l)) s,
+      between active (south_block active gap) near (omega (arith, ints)) across across (omega (arith, ints)) (omega (arith, ints, n, l)) s along (omega (arith, ints)),
+    )
 
 pub whole_block : (active : Region) → IsWithin (2 ^ 24) active → HasBlock active active
 whole_block active near = record { near = near; placed = near; west = omega (arith, ints); east = omega (arith, ints); north = omega (arith, ints); south = omega (arith, ints) }

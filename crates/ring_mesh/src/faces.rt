@@ -92,7 +92,14 @@ fn add_squares_part(
 {
     let first = faces.triangles.len();
     add_squares(&mut faces.triangles, finer, ring, squares)?;
-    add_part(&mut faces.parts, vertices, faces.triangles.as_slice(), first, level, kind)
+    add_part(
+        &mut faces.parts,
+        vertices,
+        faces.triangles.as_slice(),
+        first,
+        level,
+        kind,
+    )
 }
 
 // The north-west corners of the squares of a block.
@@ -215,14 +222,26 @@ fn add_ring(
         return Ok(());
     }
     if ring.hole.is_empty() {
-        return add_block(faces, vertices, finer, ring, level, PartKind::Whole, &ring.active);
+        return add_block(
+            faces,
+            vertices,
+            finer,
+            ring,
+            level,
+            PartKind::Whole,
+            &ring.active,
+        );
     }
     add_around(faces, vertices, finer, ring, level)
 }
 
 /// The triangles and the parts of all rings of a frame's active regions, between vertices of which the
 /// finest level's come first.
-pub(crate) fn ring_faces(alloc: Global, vertices: &[Vertex], actives: &Actives) -> Result<Faces, AllocError>
+pub(crate) fn ring_faces(
+    alloc: Global,
+    vertices: &[Vertex],
+    actives: &Actives,
+) -> Result<Faces, AllocError>
     requires few { length (triangles_of (ring_parts_from 0 ring_before actives.now)) < 2 ^ 31 }
     ensures triangles { IfOk result (λ faces. faces.triangles.items ≡ (mesh_of_parts vertices.now (ring_parts_from 0 ring_before actives.now)).triangles) }
     ensures parts { IfOk result (λ faces. faces.parts.items ≡ (mesh_of_parts vertices.now (ring_parts_from 0 ring_before actives.now)).parts) }
