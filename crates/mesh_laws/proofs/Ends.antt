@@ -8,7 +8,7 @@ use Rattle.plan_model.specs.Window.{margin}
 use Rattle.mesh_model.specs.Height.{active_of, lower_end, upper_end}
 use Rattle.mesh_model.specs.Vertices.{hole}
 use Rattle.active_region.specs.Active.{AreActive}
-use Rattle.mesh_laws.proofs.Rectangles.{Lies, lies, lying, HasCell, cell_in, Within, IsInner, hole_within, hole_is, even_if_cell, half_order, half_and_rest, rem_below, halved, halved_has_cell}
+use Rattle.mesh_laws.proofs.Rectangles.{Lies, lies, lying, HasCell, cell_in, Within, hole_within, hole_is, even_if_cell, half_order, half_and_rest, rem_below, halved}
 use Rattle.mesh_laws.proofs.Sizes.{even_of, inner_of}
 
 -- the cell after, halved, lies no farther than the last corner halved, which is even

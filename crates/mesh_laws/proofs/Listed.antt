@@ -1,5 +1,5 @@
 -- Where a cell stands among those that a ring lists: rows above the hole, rows through it, rows below it.
-use Rattle.std.proofs.Common.{◌≡◌, ℕ, suc, zero, ◌+◌, ◌-◌, ◌*◌, ◌<◌, ◌≤◌, Bool, true, false, not, cond, ◌&&◌, List, [], ◌∷◌, ◌++◌, ℤ, pos, negsuc, ◌+ℤ◌, ◌-ℤ◌, ◌≤ℤ◌, ◌<ℤ◌, length, map, min, refl, ap, sym, subst, ◌∙◌, ◌⊎◌, inl, inr, length-append, arith}
+use Rattle.std.proofs.Common.{◌≡◌, ℕ, ◌+◌, ◌-◌, ◌*◌, ◌<◌, ◌≤◌, Bool, true, false, not, List, ◌++◌, ℤ, pos, ◌+ℤ◌, ◌≤ℤ◌, ◌<ℤ◌, length, map, min, refl, ap, sym, subst, ◌∙◌, ◌⊎◌, inl, inr, length-append, arith}
 use Rattle.std.specs.List.{flat_map, filter, range_with_len}
 use Rattle.std.specs.Int.{int_gap}
 use Rattle.std.proofs.lemmas.Int.{ints}
@@ -7,11 +7,11 @@ use Rattle.std.proofs.lemmas.Bool.{cases_Bool, cases_lt, false_from_ne_true, tru
 use Rattle.std.proofs.lemmas.List.FromFn.{length-map-range_with_len}
 use lib.Signed.{lt_z}
 use Rattle.clip_regions.specs.declared.region.Region.{Region}
-use Rattle.clip_regions.specs.Regions.{contains, is_empty, empty_region, columns, rows, area, cells, numbers_from}
+use Rattle.clip_regions.specs.Regions.{contains, empty_region, columns, rows, area, numbers_from}
 use Rattle.mesh_model.specs.Vertices.{hole, cells_outside}
 use Rattle.mesh_laws.specs.Rings.{passed_rows, listed_before}
 use Rattle.mesh_laws.proofs.Lists.{IsAt, at_left, at_right, at_range}
-use Rattle.mesh_laws.proofs.Rectangles.{Lies, lies, lying, HasCell, has_cell, Within, IsInner, hole_within, hole_or_none, none_there}
+use Rattle.mesh_laws.proofs.Rectangles.{Lies, lies, lying, HasCell, Within, IsInner, hole_within, hole_or_none}
 use Rattle.mesh_laws.proofs.Cells.{gap_is}
 use Rattle.mesh_laws.proofs.Rows.{map_of_map, flat_map_of_map, filter_of_flat_map, filter_keeps, filter_middle, before, at_row, HasShortRows, before_short}
 

@@ -1,5 +1,5 @@
 -- The place of each vertex of a mesh of nested regions, ring by ring: the rings stand one after another.
-use Rattle.std.proofs.Common.{◌≡◌, ℕ, ◌+◌, ◌-◌, ◌*◌, ◌^◌, ◌<◌, ◌≤◌, true, false, List, [], ◌∷◌, ◌++◌, ℤ, pos, ◌*ℤ◌, length, get_or, map, refl, ap, sym, subst, ◌∙◌, append_assoc, length-append, arith}
+use Rattle.std.proofs.Common.{◌≡◌, ℕ, ◌+◌, ◌-◌, false, List, [], ◌∷◌, ◌++◌, ℤ, length, map, refl, ap, sym, subst, ◌∙◌, append_assoc, length-append}
 use Rattle.std.specs.List.{AllPairs}
 use Rattle.std.proofs.lemmas.List.{length-map}
 use Rattle.clip_regions.specs.declared.region.Region.{Region}
@@ -59,9 +59,10 @@ rings_placed vertices all done level e finer (active ∷ coarser) places whole c
     let own = map (named level) (cells_outside finer.active active) in
     let rest = listed_from (level + 1) active coarser in
     let more : length (done ++ own) ≡ finer.first + ring_size finer + (area active - area (hole finer.active)) =
-    length-append done own ∙ (λ t. count t + (length-map (cells_outside finer.active active) (named level) ∙ count_listed e finer.active active nested.0) t) in
-    (ring_placed vertices all done rest level e finer active places whole count nested.0,
-    rings_placed vertices all (done ++ own) (level + 1) e (next_ring finer active) coarser places (append_assoc done own rest ∙ whole) more nested.1)
+    length-append done own ∙ (λ t. count t + (length-map (cells_outside finer.active active) (named level) ∙ count_listed e finer.active active nested.0) t) in (
+      ring_placed vertices all done rest level e finer active places whole count nested.0,
+      rings_placed vertices all (done ++ own) (level + 1) e (next_ring finer active) coarser places (append_assoc done own rest ∙ whole) more nested.1,
+    )
 
 -- ---- the whole list
 has_places : (terrain : Terrain) (k : ℕ) (actives : List Region) → AllPairs StandApart (mesh_vertices terrain k actives) → OwnPlaces → HasPlaces (mesh_vertices terrain k actives) (listed_vertices actives)

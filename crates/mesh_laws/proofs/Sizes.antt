@@ -1,28 +1,22 @@
 -- How large the regions of a frame are, and that their rings come one after another.
-use Rattle.std.proofs.Common.{◌≡◌, ℕ, zero, suc, ◌+◌, ◌-◌, ◌*◌, ◌^◌, ◌<◌, ◌≤◌, true, false, List, [], ◌∷◌, ◌++◌, ℤ, pos, negsuc, neg_ℤ, ◌+ℤ◌, ◌-ℤ◌, ◌*ℤ◌, ◌≤ℤ◌, length, get_or, refl, ap, sym, subst, ◌∙◌, inl, inr, arith, length-append}
-use Rattle.std.specs.List.{All, flat_map}
+use Rattle.std.proofs.Common.{◌≡◌, ℕ, zero, suc, ◌+◌, ◌-◌, ◌*◌, ◌^◌, ◌<◌, ◌≤◌, true, List, [], ◌∷◌, ℤ, pos, ◌+ℤ◌, ◌-ℤ◌, ◌≤ℤ◌, length, get_or, refl, sym, subst, inl, inr, arith}
 use Rattle.std.specs.Int.{int_gap}
 use Rattle.std.proofs.lemmas.Int.{ints}
-use Rattle.std.proofs.lemmas.Bool.{cases_Bool}
-use Rattle.std.proofs.lemmas.List.{get_or_default}
 use Rattle.std.proofs.Math.Nat.{mul-le-mul}
 use Rattle.std.proofs.Math.Pow.{pow_mono}
-use Rattle.std.proofs.lemmas.Nat.{pow-add}
-use borrow.Author.Differences.{up, down}
 use Rattle.clip_regions.specs.declared.region.Region.{Region}
-use Rattle.clip_regions.specs.FloorDivision.{floor_div, floor_rem}
-use Rattle.clip_regions.specs.Regions.{contains, is_empty, empty_region, columns, rows, area, IsWithin, HasEvenCorners}
-use Rattle.plan_model.specs.Limits.{IsSize, IsViewed}
-use Rattle.plan_model.specs.Window.{window, center, half_width, margin, IsInReach}
+use Rattle.clip_regions.specs.Regions.{contains, empty_region, columns, rows, area, IsWithin}
+use Rattle.plan_model.specs.Limits.{IsSize}
+use Rattle.plan_model.specs.Window.{window, center, half_width, margin}
 use Rattle.plan_model.specs.Laws.{IsEvenOrEmpty, AllEvenOrEmpty, AreNested}
 use Rattle.plan_model.specs.Sound.{IsInside, IsShown}
-use Rattle.mesh_model.specs.Height.{active_of, lower_end, upper_end}
+use Rattle.mesh_model.specs.Height.{active_of}
 use Rattle.mesh_model.specs.Vertices.{hole}
 use Rattle.active_region.specs.Active.{AreActive}
 use Rattle.mesh_laws.specs.declared.ring.Ring.{Ring}
 use Rattle.mesh_laws.specs.Rings.{no_ring, next_ring, ring_size, finer_of}
 use Rattle.mesh_laws.specs.Conditions.{IsCell, IsCut, HasHole, IsSmall, IsRing, AreLinked, IsBefore}
-use Rattle.mesh_laws.proofs.Rectangles.{Lies, lies, lying, HasCell, has_cell, cell_in, Within, IsInner, hole_within, hole_is, hole_or_none, empty_is_empty, none_in, even_if_cell, half_order, half_and_rest, rem_below, halved, halved_has_cell}
+use Rattle.mesh_laws.proofs.Rectangles.{lying, has_cell, Within, IsInner, hole_within, hole_or_none, empty_is_empty, none_in}
 use Rattle.mesh_laws.proofs.Cells.{gap_is}
 
 -- ---- the regions of a list, one by one

@@ -1,6 +1,5 @@
 -- The triangles of a ring by places in closed form: each corner of its squares is a cell that it lists or lies on the border of its hole.
-use Rattle.std.proofs.Common.{◌≡◌, ℕ, ◌+◌, ◌*◌, ◌^◌, ◌<◌, ◌≤◌, Bool, true, false, cond, List, [], ◌∷◌, ◌++◌, ℤ, pos, ◌+ℤ◌, ◌-ℤ◌, ◌*ℤ◌, ◌≤ℤ◌, refl, ap, sym, subst, ◌∙◌, inl, inr, arith}
-use Rattle.std.specs.List.{All, flat_map}
+use Rattle.std.proofs.Common.{◌≡◌, ℕ, ◌+◌, ◌*◌, ◌^◌, ◌≤◌, true, false, List, [], ◌∷◌, ◌++◌, ℤ, pos, ◌+ℤ◌, ◌-ℤ◌, ◌*ℤ◌, ◌≤ℤ◌, refl, ap, subst, ◌∙◌, inl, inr, arith}
 use Rattle.std.proofs.lemmas.Int.{ints}
 use Rattle.std.proofs.lemmas.Nat.{pow-add}
 use Rattle.std.proofs.lemmas.Bool.{cases_Bool, false_from_ne_true}
@@ -164,19 +163,31 @@ parts_same vertices level e finer active rim placed inner =
         let wn = w.north in
         let ws = w.south in
         let north = block_same vertices level North finer ring active.x0 active.x1 active.y0 gap.y0 rim placed (record {
-          west = omega (arith, ints); east = omega (arith, ints); north = omega (arith, ints); south = omega (arith, ints, along, ws);
+          west = omega (arith, ints);
+          east = omega (arith, ints);
+          north = omega (arith, ints);
+          south = omega (arith, ints, along, ws);
           clear = λ i j _ _ _ low amid. omega (arith, ints, low, amid.north);
         }) in
         let west = block_same vertices level West finer ring active.x0 gap.x0 gap.y0 gap.y1 rim placed (record {
-          west = omega (arith, ints); east = omega (arith, ints, across, we); north = wn; south = ws;
+          west = omega (arith, ints);
+          east = omega (arith, ints, across, we);
+          north = wn;
+          south = ws;
           clear = λ i j _ low _ _ amid. omega (arith, ints, low, amid.west);
         }) in
         let east = block_same vertices level East finer ring gap.x1 active.x1 gap.y0 gap.y1 rim placed (record {
-          west = omega (arith, ints, across, ww); east = omega (arith, ints); north = wn; south = ws;
+          west = omega (arith, ints, across, ww);
+          east = omega (arith, ints);
+          north = wn;
+          south = ws;
           clear = λ i j high _ _ _ amid. omega (arith, ints, high, amid.east);
         }) in
         let south = block_same vertices level South finer ring active.x0 active.x1 gap.y1 active.y1 rim placed (record {
-          west = omega (arith, ints); east = omega (arith, ints); north = omega (arith, ints, along, wn); south = omega (arith, ints);
+          west = omega (arith, ints);
+          east = omega (arith, ints);
+          north = omega (arith, ints, along, wn);
+          south = omega (arith, ints);
           clear = λ i j _ _ high _ amid. omega (arith, ints, high, amid.south);
         }) in
         λ t. north t ∷ west t ∷ east t ∷ south t ∷ []

@@ -1,5 +1,5 @@
 -- Laws over the definitions alone.
-use Rattle.std.specs.Prelude.{◌≡◌, ℕ, ◌+◌, ◌*◌, ◌^◌, ◌<◌, ◌≤◌, true, false, ◌&&◌, IsTrue, ℤ, pos, ◌+ℤ◌, ◌*ℤ◌, int_le, List, ◌++◌, flat_map, length}
+use Rattle.std.specs.Prelude.{◌≡◌, ℕ, ◌+◌, ◌^◌, ◌<◌, ◌≤◌, true, false, ◌&&◌, ℤ, pos, ◌+ℤ◌, ◌*ℤ◌, int_le, List, ◌++◌, flat_map, length}
 use Rattle.std.specs.Int.{int_gap}
 use Rattle.clip_regions.specs.declared.region.Region.{Region}
 use Rattle.clip_regions.specs.Regions.{contains, empty_region, columns, rows, numbers_from}

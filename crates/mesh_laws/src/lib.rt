@@ -9,6 +9,7 @@ mod laws;
 mod ring;
 
 pub use laws::{
-    actives_are_in_reach, ends_are_active, holes_are_in_regions, meshes_are_small, ring_parts_are_square_parts, rings_are_linked, rings_have_rows,
+    actives_are_in_reach, ends_are_active, holes_are_in_regions, meshes_are_small,
+    ring_parts_are_square_parts, rings_are_linked, rings_have_rows,
 };
 pub use ring::Ring;

@@ -1,3 +1,3 @@
 pub mod Squares
 pub mod Boxes
-pub mod Faces
+pub mod Added

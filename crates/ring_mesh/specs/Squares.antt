@@ -16,7 +16,7 @@ pub record HasSquare (r : Region) (i j : ℤ) : Type 0 where
 -- and so for all squares with these north-west corners
 pub record HasSquares (r squares : Region) : Type 0 where
   pub near : IsWithin (2 ^ 24) r
-  pub placed : IsWithin (2 ^ 24) squares
+  pub placed : IsWithin (2 ^ 25) squares
   pub west : r.x0 ≤ℤ squares.x0
   pub east : (squares.x1 +ℤ pos 1) ≤ℤ r.x1
   pub north : r.y0 ≤ℤ squares.y0

@@ -3,12 +3,12 @@
 ghost use Rattle.std.specs.Prelude.{◌≡◌, ◌+◌, ◌^◌, ◌<◌, ◌≤◌, ◌++◌, ◌∷◌, [], false, OnOk, IfOk, length, drop, pos, neg_ℤ, ◌-ℤ◌, ◌≤ℤ◌};
 ghost use Rattle.clip_regions.specs.Regions.{is_empty, IsWithin};
 ghost use Rattle.mesh_model.specs.declared.shapes.PartKind.TheVariants.{Whole, North, West, East, South};
-ghost use Rattle.mesh_model.specs.Parts.{squares_between as squares_of};
+ghost use Rattle.mesh_model.specs.Parts.{squares_between};
 ghost use Rattle.mesh_model.specs.Mesh.{part_at, mesh_of_parts};
 ghost use Rattle.mesh_laws.specs.Rings.{no_ring as ring_before, ring_triangles, ring_part, ring_parts, ring_parts_from};
 ghost use Rattle.mesh_laws.specs.Conditions.{IsCut, IsSmall, AreLinked};
 ghost use Rattle.ring_mesh.specs.Squares.{HasSquares};
-ghost use Rattle.ring_mesh.specs.Faces.{Adds, triangles_of};
+ghost use Rattle.ring_mesh.specs.Added.{Adds, triangles_of, HasBlock, north_block, west_block, east_block, south_block, block_part, parts_around};
 
 use crate::bounds::bounds_of;
 use crate::places::{next_ring, no_ring};
@@ -76,7 +76,7 @@ pub fn add_part(
 }
 
 // Adds the part of the squares with these north-west corners.
-fn add_block(
+fn add_squares_part(
     faces: &mut Faces,
     vertices: &[Vertex],
     finer: &Ring,
@@ -92,19 +92,170 @@ fn add_block(
 {
     let first = faces.triangles.len();
     add_squares(&mut faces.triangles, finer, ring, squares)?;
-    add_part(&mut faces.parts, vertices, faces.triangles.as_slice(), first, level, kind)
+    add_part(
+        &mut faces.parts,
+        vertices,
+        faces.triangles.as_slice(),
+        first,
+        level,
+        kind,
+    )
 }
 
-// The north-west corners of the squares between these columns and rows.
-fn squares_between(x0: i32, x1: i32, y0: i32, y1: i32) -> Region
-    requires x { neg_ℤ (pos (2 ^ 24)) ≤ℤ x1 }
-    requires y { neg_ℤ (pos (2 ^ 24)) ≤ℤ y1 }
-    ensures { result ≡ squares_of x0 x1 y0 y1 }
+// The north-west corners of the squares of a block.
+#[tactic(auto, unfolding(mesh_model::specs::Parts::squares_between))]
+fn squares_of(block: &Region) -> Region
+    requires { IsWithin (2 ^ 24) block.now }
+    ensures { result ≡ squares_between block.now.x0 block.now.x1 block.now.y0 block.now.y1 }
 {
     Region {
-        x0,
-        y0,
-        x1: x1 - 1,
-        y1: y1 - 1,
+        x0: block.x0,
+        y0: block.y0,
+        x1: block.x1 - 1,
+        y1: block.y1 - 1,
     }
+}
+
+// The block north of a hole, over the region's whole width.
+fn north_of(active: &Region, hole: &Region) -> Region
+    ensures { result ≡ north_block active.now hole.now }
+{
+    Region {
+        x0: active.x0,
+        y0: active.y0,
+        x1: active.x1,
+        y1: hole.y0,
+    }
+}
+
+// The block west of a hole, over the hole's rows.
+fn west_of(active: &Region, hole: &Region) -> Region
+    ensures { result ≡ west_block active.now hole.now }
+{
+    Region {
+        x0: active.x0,
+        y0: hole.y0,
+        x1: hole.x0,
+        y1: hole.y1,
+    }
+}
+
+// The block east of a hole, over the hole's rows.
+fn east_of(active: &Region, hole: &Region) -> Region
+    ensures { result ≡ east_block active.now hole.now }
+{
+    Region {
+        x0: hole.x1,
+        y0: hole.y0,
+        x1: active.x1,
+        y1: hole.y1,
+    }
+}
+
+// The block south of a hole, over the region's whole width.
+fn south_of(active: &Region, hole: &Region) -> Region
+    ensures { result ≡ south_block active.now hole.now }
+{
+    Region {
+        x0: active.x0,
+        y0: hole.y1,
+        x1: active.x1,
+        y1: active.y1,
+    }
+}
+
+// Adds the part of the squares of a block.
+fn add_block(
+    faces: &mut Faces,
+    vertices: &[Vertex],
+    finer: &Ring,
+    ring: &Ring,
+    level: u8,
+    kind: PartKind,
+    block: &Region,
+) -> Result<(), AllocError>
+    requires linked { AreLinked finer.now ring.now }
+    requires block { HasBlock ring.now.active block.now }
+    requires few { length faces.old.triangles.items + length (triangles_of (block_part finer.now ring.now level kind block.now ∷ [])) < 2 ^ 31 }
+    ensures { OnOk result (Adds vertices.now (block_part finer.now ring.now level kind block.now ∷ []) faces.old.triangles.items faces.old.parts.items faces.new.triangles.items faces.new.parts.items) }
+{
+    let squares = squares_of(block);
+    add_squares_part(faces, vertices, finer, ring, level, kind, &squares)
+}
+
+// Adds the parts north, west, east and south of a hole.
+fn add_around(
+    faces: &mut Faces,
+    vertices: &[Vertex],
+    finer: &Ring,
+    ring: &Ring,
+    level: u8,
+) -> Result<(), AllocError>
+    requires linked { AreLinked finer.now ring.now }
+    requires cut { IsCut ring.now.active ring.now.hole }
+    requires few { length faces.old.triangles.items + length (triangles_of (parts_around level finer.now ring.now)) < 2 ^ 31 }
+    ensures { OnOk result (Adds vertices.now (parts_around level finer.now ring.now) faces.old.triangles.items faces.old.parts.items faces.new.triangles.items faces.new.parts.items) }
+{
+    let north = north_of(&ring.active, &ring.hole);
+    let west = west_of(&ring.active, &ring.hole);
+    let east = east_of(&ring.active, &ring.hole);
+    let south = south_of(&ring.active, &ring.hole);
+    add_block(faces, vertices, finer, ring, level, PartKind::North, &north)?;
+    add_block(faces, vertices, finer, ring, level, PartKind::West, &west)?;
+    add_block(faces, vertices, finer, ring, level, PartKind::East, &east)?;
+    add_block(faces, vertices, finer, ring, level, PartKind::South, &south)
+}
+
+// Adds the parts of a ring: none where its region is empty, one where it has no hole, and else four.
+fn add_ring(
+    faces: &mut Faces,
+    vertices: &[Vertex],
+    finer: &Ring,
+    ring: &Ring,
+    level: u8,
+) -> Result<(), AllocError>
+    requires linked { AreLinked finer.now ring.now }
+    requires few { length faces.old.triangles.items + length (triangles_of (ring_parts level finer.now ring.now)) < 2 ^ 31 }
+    ensures { OnOk result (Adds vertices.now (ring_parts level finer.now ring.now) faces.old.triangles.items faces.old.parts.items faces.new.triangles.items faces.new.parts.items) }
+{
+    if ring.active.is_empty() {
+        return Ok(());
+    }
+    if ring.hole.is_empty() {
+        return add_block(
+            faces,
+            vertices,
+            finer,
+            ring,
+            level,
+            PartKind::Whole,
+            &ring.active,
+        );
+    }
+    add_around(faces, vertices, finer, ring, level)
+}
+
+/// The triangles and the parts of all rings of a frame's active regions, between vertices of which the
+/// finest level's come first.
+pub(crate) fn ring_faces(
+    alloc: Global,
+    vertices: &[Vertex],
+    actives: &Actives,
+) -> Result<Faces, AllocError>
+    requires few { length (triangles_of (ring_parts_from 0 ring_before actives.now)) < 2 ^ 31 }
+    ensures triangles { IfOk result (λ faces. faces.triangles.items ≡ (mesh_of_parts vertices.now (ring_parts_from 0 ring_before actives.now)).triangles) }
+    ensures parts { IfOk result (λ faces. faces.parts.items ≡ (mesh_of_parts vertices.now (ring_parts_from 0 ring_before actives.now)).parts) }
+{
+    rings_are_linked();
+    let mut faces = Faces {
+        triangles: Vec::new(alloc),
+        parts: Vec::new(alloc),
+    };
+    let mut finer = no_ring();
+    for level in 0..actives.levels() {
+        let ring = next_ring(&finer, actives.at(level));
+        add_ring(&mut faces, vertices, &finer, &ring, level)?;
+        finer = ring;
+    }
+    Ok(faces)
 }

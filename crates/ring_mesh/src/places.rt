@@ -62,6 +62,7 @@ pub fn next_ring(finer: &Ring, active: Region) -> Ring
 }
 
 // How many of the hole's rows end before this row.
+#[tactic(auto, using(crate::proofs::Wider::within_more))]
 fn rows_before(hole: &Region, row: i32) -> u32
     requires hole { IsSmall hole.now }
     requires low { neg_ℤ (pos (2 ^ 25)) ≤ℤ row }
@@ -113,7 +114,7 @@ fn row_in(region: &Region, i: i32, j: i32) -> u32
 }
 
 // How many cells a ring lists before the cell in column `i` and row `j`.
-#[tactic(auto, unfolding(mesh_laws::specs::Rings::listed_before))]
+#[tactic(auto, using(crate::proofs::Wider::within_more), unfolding(mesh_laws::specs::Rings::listed_before))]
 fn listed_before(hole: &Region, active: &Region, i: i32, j: i32) -> u32
     requires hole { IsSmall hole.now }
     requires active { IsSmall active.now }

@@ -9,9 +9,9 @@ use clip_regions::Region;
 
 // How many columns a region has.
 pub(crate) fn columns(region: &Region) -> u32
-    requires { IsWithin (2 ^ 24) region.now }
+    requires { IsWithin (2 ^ 25) region.now }
     ensures value { result ≡ columns_of region.now }
-    ensures few { result ≤ 2 ^ 26 }
+    ensures few { result ≤ 2 ^ 27 }
 {
     if region.x1 < region.x0 {
         0
@@ -22,9 +22,9 @@ pub(crate) fn columns(region: &Region) -> u32
 
 // How many rows a region has.
 pub(crate) fn rows(region: &Region) -> u32
-    requires { IsWithin (2 ^ 24) region.now }
+    requires { IsWithin (2 ^ 25) region.now }
     ensures value { result ≡ rows_of region.now }
-    ensures few { result ≤ 2 ^ 26 }
+    ensures few { result ≤ 2 ^ 27 }
 {
     if region.y1 < region.y0 {
         0
@@ -34,6 +34,7 @@ pub(crate) fn rows(region: &Region) -> u32
 }
 
 // How many cells a small region has.
+#[tactic(auto, using(crate::proofs::Wider::within_more))]
 pub(crate) fn area(region: &Region) -> u32
     requires { IsSmall region.now }
     ensures value { result ≡ columns_of region.now * rows_of region.now }

@@ -50,8 +50,8 @@ fn add_square(
     requires squares { HasSquares ring.now.active squares.now }
     requires column { u < columns_of squares.now }
     requires row { v < rows_of squares.now }
-    requires few_columns { u < 2 ^ 26 }
-    requires few_rows { v < 2 ^ 26 }
+    requires few_columns { u < 2 ^ 28 }
+    requires few_rows { v < 2 ^ 28 }
     ensures { OnOk result (triangles.new.items ≡ triangles.old.items ++ ring_square finer.now ring.now (squares.now.x0 +ℤ pos u) (squares.now.y0 +ℤ pos v)) }
 {
     let two = square(finer, ring, squares.x0 + u as i32, squares.y0 + v as i32);
@@ -70,7 +70,7 @@ fn add_row(
     requires linked { AreLinked finer.now ring.now }
     requires squares { HasSquares ring.now.active squares.now }
     requires row { v < rows_of squares.now }
-    requires few_rows { v < 2 ^ 26 }
+    requires few_rows { v < 2 ^ 28 }
     ensures { OnOk result (triangles.new.items ≡ triangles.old.items ++ square_row finer.now ring.now squares.now v) }
 {
     for u in 0..columns(squares) {

@@ -1,6 +1,5 @@
 -- The hole is the finer region with each corner halved, and these are even.
 use Rattle.std.proofs.Common.{pos, ◌*ℤ◌}
-use Rattle.clip_regions.specs.declared.region.Region.{Region}
 use Rattle.mesh_model.specs.Vertices.{hole}
 use Rattle.mesh_laws.proofs.Rectangles.{Lies, lies, from_hole}
 use Rattle.mesh_laws.proofs.Sizes.{contained, hole_small}

@@ -28,7 +28,7 @@ overflow_add-squares-2 c =
     let high = c.requires.squares.placed.y0_high in
     omega (arith, ints, low, high)
 
-read : (a : ℤ) (u : ℕ) → neg_ℤ (pos (2 ^ 24)) ≤ℤ a → a ≤ℤ pos (2 ^ 24) → u < 2 ^ 26 → to_z w32 (of_z w32 (to_z w32 (of_z w32 a) +ℤ to_z w32 u)) ≡ a +ℤ pos u
+read : (a : ℤ) (u : ℕ) → neg_ℤ (pos (2 ^ 25)) ≤ℤ a → a ≤ℤ pos (2 ^ 25) → u < 2 ^ 28 → to_z w32 (of_z w32 (to_z w32 (of_z w32 a) +ℤ to_z w32 u)) ≡ a +ℤ pos u
 read a u low high few = omega (arith, ints, low, high, few)
 
 square_at : (r squares : Region) (u v : ℕ) → HasSquares r squares → u < columns squares → v < rows squares → HasSquare r (squares.x0 +ℤ pos u) (squares.y0 +ℤ pos v)
