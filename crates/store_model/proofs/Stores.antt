@@ -19,7 +19,7 @@ use Rattle.store_model.specs.Format.{IsVersion, head_bytes}
 use Rattle.store_model.specs.Store.{IsBlockOf, IsBlock, IsLevel, IsFront, IsStore}
 use Rattle.store_model.specs.Restored.{restored_after, restored_height, restored_terrain, canonical_block, canonical_level, canonical_store, head_of}
 use Rattle.store_model.specs.Laws.{CanonicalWordBlock, RestoredIsTerrain, RestoredLevels}
-use Rattle.store_model.proofs.Outside.{level_outside}
+use Rattle.store_model.proofs.Outside.{level_outside, level_fits}
 
 -- ---- lengths
 flat_length : {A B : Type 0} (f : A → List B) (m : ℕ) (xs : List A) → ((x : A) → length (f x) ≤ m) → length (flat_map f xs) ≤ length xs * m
@@ -146,6 +146,7 @@ level_is words good same short version terrain levels step level sound s below =
     blocks = λ k h. block_is words same version terrain levels step level k sound s below;
     spelled = refl;
   };
+  short = λ i j. level_fits (restored_terrain terrain levels step) level i j (good terrain levels step sound);
   outside = λ i j e. level_outside (restored_terrain terrain levels step) level i j (good terrain levels step sound) e;
 }
 

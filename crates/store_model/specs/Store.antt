@@ -1,5 +1,6 @@
 -- Which bytes stand for a terrain: its store. Blocks stand level by level from the coarsest, each level row by row.
-use Rattle.std.specs.Prelude.{◌≡◌, ℕ, zero, suc, ◌+◌, ◌-◌, ◌^◌, ◌<◌, Bool, true, false, ◌==◌, List, ◌++◌, length, ℤ, pos}
+use Rattle.std.specs.Prelude.{◌≡◌, ℕ, zero, suc, ◌+◌, ◌-◌, ◌^◌, ◌<◌, Bool, true, false, ◌==◌, List, ◌++◌, length, ℤ, pos, FitsSigned}
+use Rattle.std.specs.Int.{w16}
 use Rattle.std.specs.List.{flat_map, range_with_len}
 use Rattle.clip_regions.specs.declared.region.Region.{Region}
 use Rattle.clip_regions.specs.Regions.{contains}
@@ -31,9 +32,10 @@ pub record AreBlocks (head : Head) (heights : Levels) (level n : ℕ) (bytes : L
   pub blocks : (k : ℕ) → k < n → IsBlock head heights level k (content k)
   pub spelled : bytes ≡ flat_map (λ k. entry (content k)) (range_with_len 0 n)
 
--- the bytes are those of a whole level; outside the terrain its heights are 0
+-- the bytes are those of a whole level; its heights have 16 bits, and outside the terrain they are 0
 pub record IsLevel (head : Head) (heights : Levels) (level : ℕ) (bytes : List ℕ) : Type 0 where
   pub all : AreBlocks head heights level (block_count head.width head.height level) bytes
+  pub short : (i j : ℤ) → FitsSigned w16 (heights level i j)
   pub outside : (i j : ℤ) → contains (level_region head.width head.height level) i j ≡ false → heights level i j ≡ pos 0
 
 -- the bytes are those of the header and the n coarsest levels

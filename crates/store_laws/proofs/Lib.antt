@@ -1,0 +1,9 @@
+pub mod Members
+pub mod Entries
+pub mod Heads
+pub mod Cells
+pub mod Blocks
+pub mod PlacesOf
+pub mod Likeness
+pub mod OneStore
+pub mod Terrains

@@ -1,0 +1,10 @@
+pub mod HeaderBytes
+pub mod PlaceLemmas
+pub mod CellNumbers
+pub mod PlainLemmas
+pub mod WordLemmas
+pub mod EntryLemmas
+pub mod TableLemmas
+pub mod LevelLemmas
+pub mod BlockLists
+pub mod Stores

@@ -1,0 +1,9 @@
+pub mod Rows
+pub mod Blocks
+pub mod Patches
+pub mod Heights
+pub mod Outside
+pub mod Levels
+pub mod Restored
+pub mod Tables
+pub mod Steps

@@ -1,0 +1,4 @@
+pub mod Entries
+pub mod Cells
+pub mod Tables
+pub mod Coarser
