@@ -1,0 +1,5 @@
+pub mod Cuts
+pub mod Halves
+pub mod Readings
+pub mod Stops
+pub mod Written
