@@ -1,6 +1,7 @@
 #!/usr/bin/env bash
-# Times the built program on one frame of the largest window over made tiles of 1201 and 3601 samples a side, best of
-# several runs, beside the time of copying the same bytes with cat. It prints one table.
+# Times the built program on frames over made tiles of 1201 and 3601 samples a side, best of several runs, beside the
+# time of copying the same bytes, tiles and OBJ file, with cat: one level and twelve levels of the largest window, and
+# four tiles joined into one terrain of 7201 x 7201 samples. It prints one table.
 set -eu
 top=$(cd "$(dirname "${BASH_SOURCE[0]}")/.." && pwd)
 runs=${RUNS:-7}
@@ -38,17 +39,30 @@ PY
 }
 
 # The first call builds the program where it isn't built yet; it answers with its one fault.
-"$top/clipmap" >/dev/null || true
-program=$top/crates/clipmap/out/clipmap
+[ -n "${CLIPMAP:-}" ] || "$top/clipmap" >/dev/null || true
+program=${CLIPMAP:-$top/crates/clipmap/out/clipmap}
 
-echo "| side of the tile | seconds | vertices a second | MB of OBJ a second | seconds of cat on the same bytes |"
-echo "|---|---|---|---|---|"
-for side in 1201 3601; do
-    make_tile "$side" N00E000.hgt
-    seconds=$(best "$program" frame 8 1 600 600 out.obj N00E000.hgt)
-    copied=$(best sh -c 'cat N00E000.hgt out.obj > copy')
+# Times one frame over these tiles and prints its row: the label, K, L, X, Y, and the tiles.
+row() {
+    local label=$1 words=$2
+    shift 2
+    local line seconds copied bytes
+    line=$("$program" frame $words out.obj "$@")
+    seconds=$(best "$program" frame $words out.obj "$@")
+    copied=$(best sh -c "cat $* out.obj > copy")
     bytes=$(stat -c %s out.obj)
     python3 -c "
-s, b, c = $seconds, $bytes, $copied
-print('| %d | %.4f | %.0f | %.1f | %.4f |' % ($side, s, 65025 / s, b / s / 1e6, c))"
-done
+label, line, s, b, c = '$label', '$line'.split(), $seconds, $bytes, $copied
+print('| %s | \`frame $words\` | %s | %s | %.1f | %.4f | %.4f | %.1f |' % (label, line[3], line[5], b / 1e6, s, c, s / c))"
+}
+
+echo "| tiles | words | vertices | triangles | MB of OBJ | seconds | seconds of cat | ratio |"
+echo "|---|---|---|---|---|---|---|---|"
+make_tile 1201 N00E000.hgt
+row "one of side 1201" "8 1 600 600" N00E000.hgt
+row "one of side 1201" "6 6 600 600" N00E000.hgt
+make_tile 3601 N00E000.hgt
+row "one of side 3601" "8 1 600 600" N00E000.hgt
+row "one of side 3601" "8 12 1800 1800" N00E000.hgt
+for name in N00E001 N01E000 N01E001; do cp N00E000.hgt "$name.hgt"; done
+row "four of side 3601" "4 1 3600 3600" N00E000.hgt N00E001.hgt N01E000.hgt N01E001.hgt

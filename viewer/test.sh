@@ -58,9 +58,6 @@ draw() {
     shift
     line=$("$program" frame "$@" "$name.obj" "$tile") || {
         echo "viewer/test.sh: the program answers “$line” to: frame $* $name.obj $tile" >&2
-        if [ "$line" = "fault: NotYet" ]; then
-            echo "viewer/test.sh: it doesn't draw such a frame yet; this test wants frames of 6 and 12 levels" >&2
-        fi
         exit 1
     }
     echo "$line" >"$name.line"

@@ -1,13 +1,8 @@
-pub mod Boxes
 pub mod Concluding
-pub mod Drawing
 pub mod Ends
 mod Examples
 pub mod Fetching
 pub mod Lists
 pub mod Mosaics
 pub mod Readings
-pub mod Sides
-pub mod Squares
 pub mod Tiles
-pub mod Vertices

@@ -27,7 +27,7 @@ IsCourseInRange (Frame k x y) = IsFrameInRange k x y
 
 -- a course as contracts see it
 abbrev pub course_view : course.Course → Course
-course_view (variant.Frame k x y) = Frame k x y
+course_view (variant.Frame k viewer) = Frame k viewer.x viewer.y
 
 -- a course with all that it runs over
 pub record Prepared : Type 0 where

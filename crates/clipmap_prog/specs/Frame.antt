@@ -1,9 +1,8 @@
 -- The command `frame`.
-use Rattle.std.specs.Prelude.{Ok, Err, nat_lt, if◌then◌else◌}
+use Rattle.std.specs.Prelude.{Ok}
 use Rattle.outer_shelf.specs.Outside.{Files}
 use Rattle.clipmap_words.specs.Frame.{FrameView}
 use Rattle.clipmap_prog.specs.Courses.{Prepared, Frame, prepared_actions}
-use Rattle.clipmap_prog.specs.Faults.{NotYet}
 use Rattle.clipmap_prog.specs.Inputs.{InputsView, inputs_reading, terrain_of}
 use Rattle.clipmap_prog.specs.Outcome.{Outcome, concluded}
 use Rattle.clipmap_prog.specs.Reading.{Reading, unfetched, and_then}
@@ -17,11 +16,10 @@ frame_over frame inputs = record {
   name = frame.out;
 }
 
--- what a `frame` comes to: more than one level isn't built yet
+-- what a `frame` comes to
 unfoldable pub frame_reading : FrameView → Files → Reading Prepared
 frame_reading frame files =
-    if nat_lt 1 frame.levels then unfetched (Err NotYet)
-    else and_then (inputs_reading frame.inputs files) (λ inputs. unfetched (Ok (frame_over frame inputs)))
+    and_then (inputs_reading frame.inputs files) (λ inputs. unfetched (Ok (frame_over frame inputs)))
 
 -- what a `frame` does
 unfoldable pub frame_outcome : FrameView → Files → Outcome

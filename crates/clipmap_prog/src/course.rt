@@ -1,5 +1,6 @@
 //! The run of a course, once the words and the files have come to one.
 ghost use Rattle.std.specs.Prelude.{◌≡◌, ◌∷◌, [], string_bytes};
+ghost use Rattle.plan_model.specs.Limits.{IsLevelCount};
 ghost use Rattle.clipmap_prog.specs.Actions.{Put, Write};
 ghost use Rattle.clipmap_prog.specs.Courses.{IsCourseInRange, course_actions, course_view};
 ghost use Rattle.clipmap_prog.specs.Runs.{HadReason, Ran};
@@ -7,6 +8,7 @@ ghost use Rattle.clipmap_prog.specs.Runs.{HadReason, Ran};
 use crate::draw::{Drawn, draw};
 use crate::halt::Halt;
 use crate::output::{put, write};
+use grid_frames::Viewer;
 use height_pyramid::Grid;
 use outer_shelf::{Shelf, Sink};
 use std::alloc::Global;
@@ -18,10 +20,8 @@ pub(crate) enum Course {
     Frame {
         /// The size of the grids: 2^k − 1 vertices a side; from 4 to 8.
         k: u8,
-        /// The viewer's column, in samples.
-        x: i32,
-        /// The viewer's row, in samples.
-        y: i32,
+        /// Where the viewer stands.
+        viewer: Viewer,
     },
 }
 
@@ -42,22 +42,24 @@ fn write_frame<S: Shelf, K: Sink>(
     }
 }
 
-/// Does the course over a terrain with one level, under a name.
+/// Does the course over a terrain with so many levels, under a name.
 pub(crate) fn run_course<S: Shelf, K: Sink>(
     alloc: Global,
     grid: &Grid,
+    levels: u8,
     course: &Course,
     name: &str,
     shelf: &mut S,
     out: &mut K,
 ) -> Result<(), Halt>
     requires in_range { IsCourseInRange (course_view course.now) }
-    ensures ran { Ran S.leaves 0 (course_actions (course_view course.now) grid.now 1 name.now) result
+    requires levels { IsLevelCount levels }
+    ensures ran { Ran S.leaves 0 (course_actions (course_view course.now) grid.now levels name.now) result
         (S.told shelf.old) (S.told shelf.new) (K.told out.old) (K.told out.new) }
     ensures reason { HadReason result (S.told shelf.old) (S.told shelf.new) (K.told out.old) (K.told out.new) }
 {
     match *course {
-        Course::Frame { k, x, y } => match draw(alloc, grid, k, x, y) {
+        Course::Frame { k, viewer } => match draw(alloc, grid, k, levels, &viewer) {
             Ok(drawn) => write_frame(shelf, out, name, &drawn),
             Err(_) => Err(Halt::NoMemory),
         },

@@ -1,13 +1,10 @@
 //! The frame of whole windows round a viewer: its text and the line that tells of it.
 ghost use Rattle.std.specs.Prelude.{◌≡◌, IfOk, string_bytes};
-ghost use Rattle.plan_model.specs.Limits.{IsSize, IsViewed};
+ghost use Rattle.plan_model.specs.Limits.{IsSize, IsLevelCount, IsViewed};
 ghost use Rattle.clipmap_prog.specs.WholeFrame.{told_line, whole_line, whole_text};
 
-use crate::level_mesh::level_mesh;
-use active_region::actives;
+use grid_frames::{Viewer, grid_mesh, whole_regions};
 use height_pyramid::Grid;
-use level_frame::window;
-use mesh_model::one_level_mesh;
 use obj_frames::{Header, Mesh, NoMemory, frame_text};
 use std::alloc::{AllocError, Global};
 
@@ -32,22 +29,28 @@ fn frame_line(
     format!(in alloc; "frame {number} vertices {vertices} triangles {triangles}\n")
 }
 
-/// Draws frame 0 with the window whole round a viewer, over a terrain.
-pub(crate) fn draw(alloc: Global, grid: &Grid, k: u8, x: i32, y: i32) -> Result<Drawn, NoMemory>
+/// Draws frame 0 with the windows of so many levels whole round a viewer, over a terrain.
+pub(crate) fn draw(
+    alloc: Global,
+    grid: &Grid,
+    k: u8,
+    levels: u8,
+    viewer: &Viewer,
+) -> Result<Drawn, NoMemory>
     requires k { IsSize k }
-    requires x { IsViewed x }
-    requires y { IsViewed y }
-    ensures text { IfOk result (λ drawn. drawn.text.items ≡ whole_text k 1 x y grid.now) }
-    ensures line { IfOk result (λ drawn. string_bytes drawn.line ≡ whole_line k 1 x y grid.now) }
+    requires levels { IsLevelCount levels }
+    requires x { IsViewed viewer.now.x }
+    requires y { IsViewed viewer.now.y }
+    ensures text { IfOk result (λ drawn. drawn.text.items ≡ whole_text k levels viewer.now.x viewer.now.y grid.now) }
+    ensures line { IfOk result (λ drawn. string_bytes drawn.line ≡ whole_line k levels viewer.now.x viewer.now.y grid.now) }
 {
-    let active = window(k, 0, x, y);
-    let mesh = level_mesh(alloc, grid, &active)?;
-    one_level_mesh();
+    let actives = whole_regions(k, levels, viewer);
+    let mesh = grid_mesh(alloc, k, &actives, grid)?;
     let header = Header {
         number: 0,
-        x,
-        y,
-        actives: actives(&[active], k, 0),
+        x: viewer.x,
+        y: viewer.y,
+        actives,
     };
     let text = frame_text(alloc, &mesh, &header)?;
     let line = frame_line(alloc, 0, mesh.vertices().len(), mesh.triangles().len())?;

@@ -9,16 +9,16 @@ ghost use Rattle.clipmap_prog.specs.Reading.{Finds, OnStop};
 ghost use Rattle.clipmap_prog.specs.Runs.{CallsWithin, HadReason};
 
 use crate::course::{Course, run_course};
-use crate::fault::Fault;
 use crate::halt::Halt;
 use crate::inputs::{Inputs, read_inputs};
 use crate::output::{ended, write_fault};
 use crate::reading::Stop;
 use clipmap_words::FrameWords;
+use grid_frames::Viewer;
 use outer_shelf::{Shelf, Sink};
 use std::alloc::Global;
 
-/// The inputs that a frame is drawn over. One level is built.
+/// The inputs that a frame is drawn over.
 #[tactic(auto, unfolding(crate::specs::Frame::frame_reading))]
 fn read_frame<'a, S: Shelf>(
     alloc: Global,
@@ -29,7 +29,6 @@ fn read_frame<'a, S: Shelf>(
     ensures found { IfSome (S.told shelf.old).files
         (λ files. Finds (λ inputs. frame_over (frame_view frame.now) (inputs_view inputs)) result
         (frame_reading (frame_view frame.now) files).found) }
-    ensures one_level { IfOk result (λ _. frame.now.levels ≤ 1) }
     ensures calls { IfSome (S.told shelf.old).files
         (λ files. CallsWithin (frame_reading (frame_view frame.now) files).fetches
         (S.told shelf.old).calls (S.told shelf.new).calls) }
@@ -37,9 +36,6 @@ fn read_frame<'a, S: Shelf>(
     ensures files_stay { (S.told shelf.new).files ≡ (S.told shelf.old).files }
     ensures faults_stay { (S.told shelf.old).faults ≤ (S.told shelf.new).faults }
 {
-    if frame.levels > 1 {
-        return Err(Stop::Refused(Fault::NotYet));
-    }
     read_inputs(alloc, shelf, frame.inputs)
 }
 
@@ -59,11 +55,18 @@ pub(crate) fn run_frame<S: Shelf, K: Sink>(
 {
     match read_frame(alloc, shelf, frame) {
         Ok(inputs) => {
-            let FrameWords { k, x, y, .. } = *frame;
-            let course = Course::Frame { k, x, y };
+            let FrameWords {
+                k,
+                levels,
+                x,
+                y,
+                ..
+            } = *frame;
+            let viewer = Viewer { x, y };
+            let course = Course::Frame { k, viewer };
             ended(
                 0,
-                run_course(alloc, &inputs.grid, &course, frame.out, shelf, out),
+                run_course(alloc, &inputs.grid, levels, &course, frame.out, shelf, out),
             )
         }
         Err(Stop::Refused(fault)) => ended(2, write_fault(alloc, out, fault)),

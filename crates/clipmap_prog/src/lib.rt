@@ -1,14 +1,14 @@
 //! The top call of the terrain engine: what the words of a command line do over a shelf of files and an output.
 #![tactic(auto)]
 
-mod bounds;
 mod course;
 mod draw;
 mod fault;
 mod frame;
 mod halt;
 mod inputs;
-mod level_mesh;
+#[cfg(test)]
+mod level_tests;
 mod output;
 mod program;
 mod reading;

@@ -163,7 +163,12 @@ fn refused_inputs(rt: HostRuntime) {
     let table = [
         ("1", TILE, &NINE[..17], long),
         ("1", TILE, &NINE[..0], none),
-        ("2", "N90E000.hgt", &NINE[..17], "fault: NotYet\n"),
+        (
+            "2",
+            "N90E000.hgt",
+            &NINE[..17],
+            "fault: BadName N90E000.hgt\n",
+        ),
         ("1", "tile.GCT", &NINE[..17], "fault: NotYet\n"),
         (
             "1",

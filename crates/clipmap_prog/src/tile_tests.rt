@@ -13,7 +13,7 @@ fn flat(height: u8) -> [u8; 18] {
 }
 
 /// The bytes of a tile of side 1201 at height 0.
-fn sea(alloc: Global) -> Result<Vec<u8>, AllocError> {
+pub(crate) fn sea(alloc: Global) -> Result<Vec<u8>, AllocError> {
     let mut bytes = Vec::with_capacity(alloc, 2_884_802)?;
     for _ in 0..2_884_802u32 {
         bytes.push(0)?;

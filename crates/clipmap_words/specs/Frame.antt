@@ -1,7 +1,8 @@
 -- The words of `frame`.
 use Rattle.std.specs.Prelude.{ℕ, ◌≤◌, ℤ, pos, neg_ℤ, ◌≤ℤ◌, Option, Some, None, List, ◌∷◌, ◌&&◌, if◌then◌else◌, option_and_then, length, map, string_bytes}
 use Rattle.clipmap_words.specs.Names.{is_name, is_inputs}
-use Rattle.clipmap_words.specs.Numbers.{natural_of, coordinate_of}
+use Rattle.number_words.specs.Numbers.{natural_of}
+use Rattle.clipmap_words.specs.Numbers.{coordinate_of}
 use Rattle.clipmap_words.specs.declared.frame.FrameWords.{FrameWords}
 
 -- the words `frame K L X Y OUT INPUT+`, read

@@ -4,7 +4,8 @@ ghost use Rattle.std.specs.Option.{option_map};
 ghost use Rattle.clipmap_words.specs.Frame.{IsFrameInRange, frame_of, frame_view};
 
 use crate::names::{is_inputs, is_name};
-use crate::numbers::{coordinate, natural};
+use crate::numbers::coordinate;
+use number_words::natural;
 
 /// The words `frame K L X Y OUT INPUT+`, read.
 #[derive(Clone, Copy)]

@@ -5,8 +5,11 @@ pub mod Rows
 pub mod Listed
 pub mod Places
 pub mod Squares
+pub mod Borders
 pub mod Runs
 pub mod Sizes
 pub mod Ends
 pub mod Few
 pub mod Reaches
+pub mod Heights
+pub mod Covered

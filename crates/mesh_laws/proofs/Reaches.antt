@@ -1,5 +1,5 @@
 -- The cells of a region of a frame lie near the mosaic's corner, in samples.
-use Rattle.std.proofs.Common.{◌≡◌, ℕ, ◌+◌, ◌*◌, ◌^◌, ◌<◌, ◌≤◌, List, ℤ, pos, negsuc, neg_ℤ, ◌+ℤ◌, ◌-ℤ◌, ◌*ℤ◌, ◌≤ℤ◌, length, get_or, ap, sym, subst, ◌∙◌, inl, inr, arith}
+use Rattle.std.proofs.Common.{◌≡◌, ℕ, ◌+◌, ◌*◌, ◌^◌, ◌<◌, ◌≤◌, List, true, ℤ, pos, negsuc, neg_ℤ, ◌+ℤ◌, ◌-ℤ◌, ◌*ℤ◌, ◌≤ℤ◌, length, get_or, ap, sym, subst, ◌∙◌, inl, inr, arith}
 use Rattle.std.proofs.lemmas.Int.{ints}
 use Rattle.std.proofs.lemmas.Nat.{pow-add}
 use Rattle.std.proofs.Math.Nat.{mul-le-mul, le_refl}
@@ -7,12 +7,14 @@ use Rattle.std.proofs.Math.Pow.{pow_mono}
 use borrow.Author.Differences.{up, down, sum_is_lem, product_is}
 use Rattle.clip_regions.specs.declared.region.Region.{Region}
 use Rattle.clip_regions.specs.FloorDivision.{floor_div, floor_rem}
-use Rattle.clip_regions.specs.Regions.{empty_region}
+use Rattle.clip_regions.specs.Regions.{contains, empty_region}
 use Rattle.plan_model.specs.Limits.{IsSize, IsViewed}
 use Rattle.plan_model.specs.Window.{window, center, half_width, IsInReach}
 use Rattle.plan_model.specs.Sound.{IsInside, IsShown}
 use Rattle.mesh_model.specs.Height.{active_of}
 use Rattle.active_region.specs.Active.{AreActive}
+use Rattle.mesh_laws.specs.Conditions.{IsNear}
+use Rattle.mesh_laws.proofs.Rectangles.{lies}
 use Rattle.mesh_laws.proofs.Sizes.{half_at_most}
 
 -- ---- products
@@ -144,3 +146,21 @@ unfolding active_of
 reach_of actives level drawn low =
     let many = drawn.drawn.many.high in
     shown_reach drawn.k level (get_or actives level empty_region) drawn.size (omega arith) (drawn.drawn.shown level low)
+
+between : (a i b : ℤ) (p : ℕ) → a ≤ℤ i → i ≤ℤ b → neg_ℤ (pos (2 ^ 23)) ≤ℤ (a *ℤ pos p) → (b *ℤ pos p) ≤ℤ pos (2 ^ 23) →
+    (neg_ℤ (pos (2 ^ 23)) ≤ℤ (i *ℤ pos p)) × ((i *ℤ pos p) ≤ℤ pos (2 ^ 23))
+between a i b p ai ib low high = (
+  along (neg_ℤ (pos (2 ^ 23))) (a *ℤ pos p) (i *ℤ pos p) low (order_times a i p ai),
+  along (i *ℤ pos p) (b *ℤ pos p) (pos (2 ^ 23)) (order_times i b p ib) high,
+)
+
+-- and so does each of its cells
+pub near_of : (actives : List Region) (level : ℕ) (i j : ℤ) → AreActive actives → level < length actives → contains (active_of actives level) i j ≡ true →
+    IsNear level i × IsNear level j
+near_of actives level i j drawn low there =
+    let r = active_of actives level in
+    let cell = lies r i j there in
+    let reach = reach_of actives level drawn low in
+    let across = between r.x0 i r.x1 (2 ^ level) cell.west cell.east reach.west reach.east in
+    let down = between r.y0 j r.y1 (2 ^ level) cell.north cell.south reach.north reach.south in
+    (record { low = across.0; high = across.1 }, record { low = down.0; high = down.1 })

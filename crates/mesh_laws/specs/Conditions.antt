@@ -1,5 +1,5 @@
 -- What is true of the rings of a frame's active regions.
-use Rattle.std.specs.Prelude.{◌≡◌, ℕ, ◌*◌, ◌^◌, ◌≤◌, ◌⊎◌, ℤ, ◌≤ℤ◌, List}
+use Rattle.std.specs.Prelude.{◌≡◌, ℕ, ◌*◌, ◌^◌, ◌≤◌, ◌⊎◌, ℤ, pos, neg_ℤ, ◌*ℤ◌, ◌≤ℤ◌, List}
 use Rattle.clip_regions.specs.declared.region.Region.{Region}
 use Rattle.clip_regions.specs.Regions.{empty_region, columns, rows, IsWithin}
 use Rattle.plan_model.specs.Laws.{IsEvenOrEmpty}
@@ -13,6 +13,11 @@ pub record IsCell (r : Region) (i j : ℤ) : Type 0 where
   pub east : i ≤ℤ r.x1
   pub north : r.y0 ≤ℤ j
   pub south : j ≤ℤ r.y1
+
+-- the sample at this column or row of a level lies within 2^23 of the mosaic's corner
+pub record IsNear (level : ℕ) (cell : ℤ) : Type 0 where
+  pub low : neg_ℤ (pos (2 ^ 23)) ≤ℤ (cell *ℤ pos (2 ^ level))
+  pub high : (cell *ℤ pos (2 ^ level)) ≤ℤ pos (2 ^ 23)
 
 -- the hole has a cell and lies in the active region
 pub record IsCut (active gap : Region) : Type 0 where
@@ -51,3 +56,8 @@ pub record IsBefore (actives : List Region) (level : ℕ) (ring : Ring) : Type 0
   pub own : IsRing ring
   pub region : ring.active ≡ finer_of actives level
   pub few : ring.first ≤ 65025 * level
+
+-- the number is no farther from zero than n
+pub record IsAtMost (n : ℕ) (x : ℤ) : Type 0 where
+  pub low : neg_ℤ (pos n) ≤ℤ x
+  pub high : x ≤ℤ pos n

@@ -1,27 +1,37 @@
 -- Laws over the definitions alone.
-use Rattle.std.specs.Prelude.{◌≡◌, ℕ, ◌+◌, ◌^◌, ◌<◌, ◌≤◌, true, false, ◌&&◌, ℤ, pos, ◌+ℤ◌, ◌*ℤ◌, int_le, List, ◌++◌, flat_map, length}
+use Rattle.std.specs.Prelude.{◌≡◌, ℕ, ◌+◌, ◌^◌, ◌<◌, ◌≤◌, true, false, ◌&&◌, ℤ, pos, ◌+ℤ◌, ◌*ℤ◌, int_le, List, ◌∷◌, ◌++◌, map, flat_map, count_by, length, if◌then◌else◌}
 use Rattle.std.specs.Int.{int_gap}
 use Rattle.clip_regions.specs.declared.region.Region.{Region}
 use Rattle.clip_regions.specs.Regions.{contains, empty_region, columns, rows, numbers_from}
 use Rattle.plan_model.specs.Laws.{AllEvenOrEmpty, IsEvenOrEmpty, AreNested}
 use Rattle.plan_model.specs.Window.{IsInReach}
-use Rattle.terrain_model.specs.Terrain.{Terrain}
-use Rattle.mesh_model.specs.Height.{active_of, lower_end, upper_end}
+use Rattle.plan_model.specs.Limits.{IsSize}
+use Rattle.terrain_model.specs.Terrain.{Terrain, IsTerrain}
+use Rattle.mesh_model.specs.declared.shapes.Vertex.{Vertex}
+use Rattle.mesh_model.specs.Height.{active_of, lower_end, upper_end, vertex_height}
 use Rattle.mesh_model.specs.Vertices.{hole, cells_outside, mesh_vertices}
-use Rattle.mesh_model.specs.Parts.{square_parts_from}
+use Rattle.mesh_model.specs.Parts.{square_parts, square_parts_from, all_stitch_parts}
 use Rattle.mesh_model.specs.Mesh.{mesh}
 use Rattle.mesh_model.specs.Rings.{unstitched}
 use Rattle.mesh_model.specs.Conditions.{NameVertices}
 use Rattle.mesh_laws.specs.declared.ring.Ring.{Ring}
 use Rattle.mesh_laws.specs.Rings.{no_ring, next_ring, ring_size, ring_row, run, ring_parts_from}
+use Rattle.mesh_laws.specs.Stitches.{all_ring_stitches}
+use Rattle.mesh_laws.specs.Squares.{squares_in, part_squares, triangles_in}
 use Rattle.active_region.specs.Active.{AreActive}
-use Rattle.mesh_laws.specs.Conditions.{IsCell, IsSmall, HasHole, IsRing, AreLinked, IsBefore}
+use Rattle.mesh_laws.specs.Conditions.{IsCell, IsNear, IsSmall, HasHole, IsRing, AreLinked, IsBefore, IsAtMost}
 
 -- the square parts of nested regions, by places in closed form
 abbrev pub RingParts : Type 0
 RingParts =
     (terrain : Terrain) (k e : ℕ) (actives : List Region) → 1 ≤ e → AllEvenOrEmpty actives → AreNested e actives →
     square_parts_from (mesh_vertices terrain k actives) 0 empty_region actives ≡ ring_parts_from 0 no_ring actives
+
+-- the stitch parts of nested regions, by places in closed form
+abbrev pub RingStitches : Type 0
+RingStitches =
+    (terrain : Terrain) (k e : ℕ) (actives : List Region) → 1 ≤ e → AreNested e actives →
+    all_stitch_parts (mesh_vertices terrain k actives) actives ≡ all_ring_stitches actives
 
 -- the cells outside a hole are those of the rows
 abbrev pub RingRows : Type 0
@@ -79,6 +89,12 @@ abbrev pub ActivesReach : Type 0
 ActivesReach =
     (actives : List Region) (level : ℕ) → AreActive actives → level < length actives → IsInReach level (active_of actives level)
 
+-- and so does the sample at each of its cells
+abbrev pub CellsReach : Type 0
+CellsReach =
+    (actives : List Region) (level : ℕ) (i j : ℤ) → AreActive actives → level < length actives →
+    contains (active_of actives level) i j ≡ true → IsNear level i × IsNear level j
+
 -- the two coarser cells between which a cell lies are cells of the coarser active region
 abbrev pub LowerEnds : Type 0
 LowerEnds =
@@ -108,3 +124,22 @@ FewTriangles =
 abbrev pub FewRingTriangles : Type 0
 FewRingTriangles =
     (terrain : Terrain) (k : ℕ) (actives : List Region) → AreActive actives → length (unstitched terrain k actives).triangles < 2 ^ 31
+
+-- no vertex lies farther from height 0 than 2^20 thirty-seconds of a metre
+abbrev pub HeightsAreSmall : Type 0
+HeightsAreSmall =
+    (terrain : Terrain) (k : ℕ) (actives : List Region) (level : ℕ) (i j : ℤ) → IsTerrain terrain → IsSize k →
+    contains (active_of actives level) i j ≡ true → IsAtMost (2 ^ 20) (vertex_height terrain k actives level i j)
+
+-- the triangles of the parts of an active region are those of their squares
+abbrev pub PartSquares : Type 0
+PartSquares =
+    (vertices : List Vertex) (level : ℕ) (finer active : Region) →
+    map (λ part. part.triangles) (square_parts vertices level finer active) ≡ map (triangles_in vertices level) (part_squares finer active)
+
+-- the squares of the hole and those of the parts are together the squares of the active region, each once
+abbrev pub SquaresOnce : Type 0
+SquaresOnce =
+    (finer active : Region) (i j : ℤ) → HasHole active (hole finer) →
+    count_by (λ squares. contains squares i j) (squares_in (hole finer) ∷ part_squares finer active)
+    ≡ (if contains (squares_in active) i j then 1 else 0)

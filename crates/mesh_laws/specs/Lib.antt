@@ -1,3 +1,5 @@
 pub mod Rings
+pub mod Stitches
+pub mod Squares
 pub mod Conditions
 pub mod Laws

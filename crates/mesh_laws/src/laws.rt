@@ -1,12 +1,19 @@
 //! Laws over the definitions alone: each function's contract is the law.
 
-ghost use Rattle.mesh_laws.specs.Laws.{RingParts, RingRows, WholeRow, CutRow, HoleCells, CellsAreContained, HolesAreSmall, FirstRing, NextLinked, NextRing, RingSize, ActivesReach, LowerEnds, UpperEnds, UnstitchedNames, FewVertices, FewTriangles, FewRingTriangles};
+ghost use Rattle.mesh_laws.specs.Laws.{RingParts, RingStitches, RingRows, WholeRow, CutRow, HoleCells, CellsAreContained, HolesAreSmall, FirstRing, NextLinked, NextRing, RingSize, ActivesReach, CellsReach, LowerEnds, UpperEnds, UnstitchedNames, FewVertices, FewTriangles, FewRingTriangles, HeightsAreSmall, PartSquares, SquaresOnce};
 
 use mesh_model::{nested_counts, nested_names, vertices_apart};
 
 /// The triangles of nested active regions, by places in closed form.
 pub fn ring_parts_are_square_parts()
     ensures { RingParts }
+{
+    vertices_apart();
+}
+
+/// The stitches of nested active regions, by places in closed form.
+pub fn ring_stitches_are_stitch_parts()
+    ensures { RingStitches }
 {
     vertices_apart();
 }
@@ -35,7 +42,8 @@ pub fn rings_are_linked()
 
 /// The cells of active regions lie within 2^23 samples of the mosaic's corner.
 pub fn actives_are_in_reach()
-    ensures { ActivesReach }
+    ensures regions { ActivesReach }
+    ensures cells { CellsReach }
 {}
 
 /// The two coarser cells between which a cell of an active region lies are cells of the coarser one.
@@ -54,3 +62,14 @@ pub fn meshes_are_small()
     nested_names();
     nested_counts();
 }
+
+/// No vertex of a frame lies farther from height 0 than 2^20 thirty-seconds of a metre.
+pub fn heights_are_small()
+    ensures { HeightsAreSmall }
+{}
+
+/// The parts of an active region have its squares outside the hole, each once.
+pub fn parts_have_ring_squares()
+    ensures squares { PartSquares }
+    ensures once { SquaresOnce }
+{}

@@ -9,7 +9,8 @@ mod laws;
 mod ring;
 
 pub use laws::{
-    actives_are_in_reach, ends_are_active, holes_are_in_regions, meshes_are_small,
-    ring_parts_are_square_parts, rings_are_linked, rings_have_rows,
+    actives_are_in_reach, ends_are_active, heights_are_small, holes_are_in_regions,
+    meshes_are_small, parts_have_ring_squares, ring_parts_are_square_parts,
+    ring_stitches_are_stitch_parts, rings_are_linked, rings_have_rows,
 };
 pub use ring::Ring;

@@ -1,11 +1,11 @@
 -- Parts that are added one after another.
-use Rattle.std.proofs.Common.{◌≡◌, ℕ, ◌+◌, ◌^◌, ◌<◌, List, [], ◌∷◌, ◌++◌, length, drop, refl, ap, sym, subst, ◌∙◌, append_assoc, append-nil, length-append, arith}
+use Rattle.std.proofs.Common.{◌≡◌, ℕ, ◌+◌, ◌<◌, List, [], ◌∷◌, ◌++◌, length, ap, sym, ◌∙◌, append_assoc, append-nil, length-append, arith}
 use Rattle.std.specs.List.{flat_map}
 use Rattle.std.proofs.lemmas.List.Concat.{flat_map-append}
 use Rattle.mesh_model.specs.declared.shapes.Vertex.{Vertex}
 use Rattle.mesh_model.specs.declared.shapes.Part.{Part}
 use Rattle.mesh_model.specs.Parts.{PartTriangles}
-use Rattle.mesh_model.specs.Mesh.{part_at, parts_from, mesh_of_parts}
+use Rattle.mesh_model.specs.Mesh.{part_at, parts_from}
 use Rattle.ring_mesh.specs.Added.{Adds, triangles_of}
 
 pub triangles_append : (ps qs : List PartTriangles) → triangles_of (ps ++ qs) ≡ triangles_of ps ++ triangles_of qs

@@ -1,5 +1,5 @@
 -- The blocks round the hole of a ring lie in its region, and the parts of a ring case by case.
-use Rattle.std.proofs.Common.{◌≡◌, ℕ, ◌+◌, ◌^◌, ◌<◌, true, false, List, [], ◌∷◌, ◌++◌, pos, ◌-ℤ◌, ◌+ℤ◌, ◌≤ℤ◌, length, sym, subst, ◌∙◌, inl, inr, arith}
+use Rattle.std.proofs.Common.{◌≡◌, ℕ, ◌+◌, ◌^◌, ◌<◌, true, false, List, [], ◌∷◌, ◌++◌, ◌≤ℤ◌, length, sym, subst, ◌∙◌, inl, inr, arith}
 use Rattle.std.proofs.lemmas.Int.{ints}
 use Rattle.std.proofs.lemmas.Bool.{true≢false}
 use Rattle.clip_regions.specs.declared.region.Region.{Region}
@@ -8,7 +8,7 @@ use Rattle.mesh_model.specs.declared.shapes.PartKind.TheVariants.{Whole}
 use Rattle.mesh_model.specs.Parts.{PartTriangles, squares_between}
 use Rattle.mesh_laws.specs.declared.ring.Ring.{Ring}
 use Rattle.mesh_laws.specs.Rings.{ring_parts}
-use Rattle.mesh_laws.specs.Conditions.{IsCut, HasHole, IsRing}
+use Rattle.mesh_laws.specs.Conditions.{IsCut, IsRing}
 use Rattle.ring_mesh.specs.Squares.{HasSquares}
 use Rattle.ring_mesh.specs.Added.{HasBlock, triangles_of, north_block, west_block, east_block, south_block, block_part, parts_around}
 use Rattle.ring_mesh.proofs.Added.{few_front, few_back}

@@ -1,12 +1,12 @@
 -- Boxes round vertices, one vertex after another, are the bounds of the definition.
-use Rattle.std.proofs.Common.{◌≡◌, ℕ, zero, suc, ◌+◌, ◌<◌, ◌≤◌, List, [], ◌∷◌, ◌++◌, length, get_or, drop, map, ℤ, pos, refl, ap, sym, ◌∙◌, arith}
+use Rattle.std.proofs.Common.{◌≡◌, ℕ, ◌+◌, ◌<◌, ◌≤◌, List, [], ◌∷◌, ◌++◌, length, get_or, drop, map, ℤ, pos, refl, ap, sym, ◌∙◌, arith}
 use Rattle.std.specs.List.{fold}
 use Rattle.std.specs.Int.{int_min, int_max}
 use Rattle.std.proofs.lemmas.Int.{ints, clamps}
 use Rattle.std.proofs.lemmas.List.{at_drop_more, at_drop_all}
 use Rattle.mesh_model.specs.declared.shapes.Vertex.{Vertex}
 use Rattle.mesh_model.specs.declared.shapes.Bounds.{Bounds}
-use Rattle.mesh_model.specs.Mesh.{least, greatest, vertices_of, bounds_of}
+use Rattle.mesh_model.specs.Mesh.{vertices_of, bounds_of}
 use Rattle.ring_mesh.specs.Boxes.{vertex_named, point_box, wider, widest, first_box}
 
 widest_append : (box : Bounds) (xs ys : List Vertex) → widest box (xs ++ ys) ≡ widest (widest box xs) ys

@@ -45,7 +45,7 @@ way_is a b d e h =
     sym (gap_is a b (nat_abs d) reached)
 
 -- and how far it is within a span of this many numbers
-gap_by : (a b : ℤ) → int_gap a b ≡ (up b + down a) - (up a + down b)
+pub gap_by : (a b : ℤ) → int_gap a b ≡ (up b + down a) - (up a + down b)
 gap_by (pos a) (pos b) = omega arith
 gap_by (pos a) (negsuc b) = omega arith
 gap_by (negsuc a) (pos b) = omega arith

@@ -5,3 +5,7 @@ pub mod Wider
 pub mod Blocks
 pub mod UnderWay
 pub mod Added
+pub mod Whole
+pub mod Cells
+pub mod RingRows
+pub mod Blends

@@ -1,7 +1,7 @@
 -- How lists over a range grow, and lists over the cells of a region.
 use Rattle.std.proofs.Common.{◌≡◌, ℕ, ◌+◌, List, [], ◌∷◌, ◌++◌, ℤ, pos, ◌+ℤ◌, map, refl, ap, sym, ◌∙◌, append_assoc, arith}
 use Rattle.std.specs.List.{flat_map, range_with_len}
-use Rattle.std.proofs.lemmas.List.{append-nil}
+use Rattle.std.proofs.lemmas.List.{append-nil, map-append}
 use Rattle.std.proofs.lemmas.List.FromFn.{map-range_with_len_more}
 use Rattle.std.proofs.lemmas.List.Concat.{flat_map-append}
 use Rattle.clip_regions.specs.declared.region.Region.{Region}
@@ -48,3 +48,16 @@ flat_map_cells f r =
   where
     row : (v : ℕ) → flat_map f (map (λ i. (i, r.y0 +ℤ pos v)) (numbers_from r.x0 (columns r))) ≡ flat_map (λ u. f (r.x0 +ℤ pos u, r.y0 +ℤ pos v)) (range_with_len 0 (columns r))
     row v = flat_map_of_map f (λ i. (i, r.y0 +ℤ pos v)) (numbers_from r.x0 (columns r)) ∙ flat_map_of_map (λ i. f (i, r.y0 +ℤ pos v)) (λ u. r.x0 +ℤ pos u) (range_with_len 0 (columns r))
+
+pub map_of_map : {A B C : Type 0} (f : B → C) (g : A → B) (xs : List A) → map f (map g xs) ≡ map (λ x. f (g x)) xs
+map_of_map f g [] = refl
+map_of_map f g (x ∷ xs) = ap (λ rest. f (g x) ∷ rest) (map_of_map f g xs)
+
+map_of_flat_map : {A B C : Type 0} (f : B → C) (g : A → List B) (xs : List A) → map f (flat_map g xs) ≡ flat_map (λ x. map f (g x)) xs
+map_of_flat_map f g [] = refl
+map_of_flat_map f g (x ∷ xs) = map-append f (g x) (flat_map g xs) ∙ ap (λ rest. map f (g x) ++ rest) (map_of_flat_map f g xs)
+
+-- the images of rows, row by row
+pub map_of_rows : {B C : Type 0} (f : B → C) (g : ℤ → List B) (a : ℤ) (n : ℕ) →
+    map f (flat_map g (numbers_from a n)) ≡ flat_map (λ v. map f (g (a +ℤ pos v))) (range_with_len 0 n)
+map_of_rows f g a n = map_of_flat_map f g (numbers_from a n) ∙ flat_map_of_map (λ j. map f (g j)) (λ v. a +ℤ pos v) (range_with_len 0 n)

@@ -1,5 +1,5 @@
 -- Boxes round vertices, one vertex after another.
-use Rattle.std.specs.Prelude.{ℕ, ℤ, pos, List, [], ◌∷◌, fold, get_or}
+use Rattle.std.specs.Prelude.{ℕ, pos, List, [], ◌∷◌, get_or}
 use Rattle.std.specs.Int.{int_min, int_max}
 use Rattle.mesh_model.specs.declared.shapes.Vertex.{Vertex}
 use Rattle.mesh_model.specs.declared.shapes.Bounds.{Bounds}

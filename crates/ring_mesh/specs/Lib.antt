@@ -1,3 +1,5 @@
 pub mod Squares
 pub mod Boxes
 pub mod Added
+pub mod Laws
+pub mod Listed

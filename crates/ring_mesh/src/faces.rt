@@ -236,9 +236,10 @@ fn add_ring(
 }
 
 /// The triangles and the parts of all rings of a frame's active regions, between vertices of which the
-/// finest level's come first.
+/// finest level's come first. The list of triangles has this room.
 pub(crate) fn ring_faces(
     alloc: Global,
+    room: usize,
     vertices: &[Vertex],
     actives: &Actives,
 ) -> Result<Faces, AllocError>
@@ -248,7 +249,7 @@ pub(crate) fn ring_faces(
 {
     rings_are_linked();
     let mut faces = Faces {
-        triangles: Vec::new(alloc),
+        triangles: Vec::with_capacity(alloc, room)?,
         parts: Vec::new(alloc),
     };
     let mut finer = no_ring();

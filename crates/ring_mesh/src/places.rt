@@ -38,7 +38,7 @@ fn hole(finer: Region) -> Region
 }
 
 // How many vertices a ring lists.
-fn ring_size(ring: &Ring) -> u32
+pub(crate) fn ring_size(ring: &Ring) -> u32
     requires { IsRing ring.now }
     ensures value { result ≡ size_of ring.now }
     ensures few { result ≤ 65025 }
@@ -126,9 +126,9 @@ fn listed_before(hole: &Region, active: &Region, i: i32, j: i32) -> u32
     whole.saturating_sub(product(columns(hole), passed_rows(hole, i, j)))
 }
 
-// The place of the vertex at a cell that a ring lists.
+/// The place of the vertex at a cell that a ring lists: a cell of its active region outside its hole.
 #[tactic(auto, unfolding(mesh_laws::specs::Rings::place_in))]
-fn place_in(ring: &Ring, i: i32, j: i32) -> u32
+pub fn place_in(ring: &Ring, i: i32, j: i32) -> u32
     requires ring { IsRing ring.now }
     requires cell { IsCell ring.now.active i j }
     ensures value { result ≡ place_of ring.now i j }

@@ -1,6 +1,6 @@
 //! The height of a vertex, blended towards the next coarser level.
 
-ghost use Rattle.std.specs.Prelude.{◌≡◌, ◌/◌, ◌^◌, ◌≤◌, IsTrue, pos, neg_ℤ, ◌*ℤ◌, ◌≤ℤ◌};
+ghost use Rattle.std.specs.Prelude.{◌≡◌, ◌/◌, ◌^◌, ◌≤◌, IsTrue, false, pos, neg_ℤ, ◌*ℤ◌, ◌≤ℤ◌, int_lt};
 ghost use Rattle.clip_regions.specs.Regions.{contains};
 ghost use Rattle.plan_model.specs.Limits.{IsSize};
 ghost use Rattle.plan_model.specs.Window.{blend_width as width_of_blend};
@@ -136,4 +136,14 @@ pub fn blended(
     ensures value { result ≡ blended_height k coarsest active i j own a b }
 {
     mean(k, blend_share(k, coarsest, active, i, j), own, a, b)
+}
+
+/// Whether the height of the vertex at cell (`i`, `j`) of a level's active region, which isn't the coarsest,
+/// takes anything of the coarser heights: within 2^(K − 4) cells of the region's border.
+pub fn is_blended(k: u8, active: Region, i: i32, j: i32) -> bool
+    requires k { IsSize k }
+    requires inside { IsTrue (contains active i j) }
+    ensures value { result ≡ int_lt (pos 0) (share_of k false active i j) }
+{
+    blend_share(k, false, active, i, j) > 0
 }

@@ -7,7 +7,7 @@
 mod blend;
 mod coarser;
 
-pub use blend::blended;
+pub use blend::{blended, is_blended};
 pub use coarser::ends;
 
 #[cfg(test)]

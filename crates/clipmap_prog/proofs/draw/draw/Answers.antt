@@ -1,49 +1,31 @@
-use Rattle.std.proofs.Common.{◌≡◌, ap, ◌∙◌, length, w32, to_z, of_z}
+-- The mesh is that of the whole windows.
+use Rattle.std.proofs.Common.{◌≡◌, ap, ◌∙◌, length, w32, rules, SFits, to_z, of_z}
 use Rattle.std.proofs.lemmas.Int.{to_z-of_z}
-use Rattle.plan_model.specs.Window.{half_width, window}
+use Rattle.mesh_model.specs.Mesh.{MeshLists, mesh}
 use Rattle.mesh_model.specs.Text.{frame_text}
-use Rattle.clipmap_prog.specs.WholeFrame.{told_line}
-use Rattle.clipmap_prog.proofs.Drawing.{half_few, few_columns, few_rows, one_filled, one_drawn, drawn_text, drawn_line}
+use Rattle.grid_frames.specs.Whole.{whole_regions, whole_mesh}
+use Rattle.clipmap_prog.specs.WholeFrame.{told_line, whole_text, whole_line}
 use Rattle.clipmap_prog.proofs.draw.draw.Goals as goal
 
-pub level_mesh-requires-clause-few_columns : goal.level_mesh-requires-clause-few_columns
-level_mesh-requires-clause-few_columns c =
-    few_columns c.window-active.result (half_width c.args.k) c.window-active.ensures.not_empty c.window-active.ensures.columns (half_few c.args.k c.requires.k.high)
-
-pub level_mesh-requires-clause-few_rows : goal.level_mesh-requires-clause-few_rows
-level_mesh-requires-clause-few_rows c =
-    few_rows c.window-active.result (half_width c.args.k) c.window-active.ensures.not_empty c.window-active.ensures.rows (half_few c.args.k c.requires.k.high)
-
-pub actives-requires-clause-filled : goal.actives-requires-clause-filled
-actives-requires-clause-filled c =
-    let xe : to_z w32 (of_z w32 c.args.x) ≡ c.args.x = to_z-of_z w32 c.args.x c.ranges.x in
-    let ye : to_z w32 (of_z w32 c.args.y) ≡ c.args.y = to_z-of_z w32 c.args.y c.ranges.y in
-    one_filled c.args.k c.args.x c.args.y c.window-active.result (half_width c.args.k) (simp (xe, ye) at c.window-active.ensures.value) c.requires.x c.requires.y c.window-active.ensures.even c.window-active.ensures.columns c.window-active.ensures.rows
-
 pub returns-clause-text : goal.returns-clause-text
+unfolding whole_text whole_mesh
 returns-clause-text c =
-    let terrain = c.args.grid.now in
-    let active = c.window-active.result in
-    let xe : to_z w32 (of_z w32 c.args.x) ≡ c.args.x = to_z-of_z w32 c.args.x c.ranges.x in
-    let ye : to_z w32 (of_z w32 c.args.y) ≡ c.args.y = to_z-of_z w32 c.args.y c.ranges.y in
-    let is : active ≡ window c.args.k 0 c.args.x c.args.y = simp (xe, ye) at c.window-active.ensures.value in
+    let x = c.args.viewer.now.x in
+    let y = c.args.viewer.now.y in
+    let fits_x : SFits w32 x = search rules in
+    let fits_y : SFits w32 y = search rules in
+    let xe : to_z w32 (of_z w32 x) ≡ x = to_z-of_z w32 x fits_x in
+    let ye : to_z w32 (of_z w32 y) ≡ y = to_z-of_z w32 y fits_y in
     let text = simp (xe, ye) at c.in_ok-text.ensures.text in
     text
-    ∙ ap (λ rs. frame_text 0 c.args.x c.args.y rs c.in_ok-mesh.mesh) (c.actives.ensures.value ∙ one_drawn c.args.k c.args.x c.args.y active c.requires.k.low is)
-    ∙ drawn_text c.args.k c.args.x c.args.y terrain active c.in_ok-mesh.mesh c.requires.k.low is c.in_ok-mesh.ensures.vertices c.in_ok-mesh.ensures.triangles
-    (c.one_level_mesh.ensures.vertices terrain c.args.k active c.requires.k.high)
-    (c.one_level_mesh.ensures.triangles terrain c.args.k active c.requires.k.high c.window-active.ensures.not_empty)
+    ∙ ap (λ (lists : MeshLists). frame_text 0 x y c.whole_regions-actives.result lists) c.in_ok-mesh.ensures.value
+    ∙ ap (λ regions. frame_text 0 x y regions (mesh c.args.grid.now c.args.k regions)) c.whole_regions-actives.ensures.value
 
 pub returns-clause-line : goal.returns-clause-line
+unfolding whole_line whole_mesh
 returns-clause-line c =
-    let terrain = c.args.grid.now in
-    let active = c.window-active.result in
-    let xe : to_z w32 (of_z w32 c.args.x) ≡ c.args.x = to_z-of_z w32 c.args.x c.ranges.x in
-    let ye : to_z w32 (of_z w32 c.args.y) ≡ c.args.y = to_z-of_z w32 c.args.y c.ranges.y in
-    let is : active ≡ window c.args.k 0 c.args.x c.args.y = simp (xe, ye) at c.window-active.ensures.value in
     c.in_ok-line.ensures.line
     ∙ ap (λ vs. told_line 0 (length vs) (length c.triangles.result.now)) c.vertices.ensures.value
     ∙ ap (λ ts. told_line 0 (length c.in_ok-mesh.mesh.vertices) (length ts)) c.triangles.ensures.value
-    ∙ drawn_line c.args.k c.args.x c.args.y terrain active c.in_ok-mesh.mesh c.requires.k.low is c.in_ok-mesh.ensures.vertices c.in_ok-mesh.ensures.triangles
-    (c.one_level_mesh.ensures.vertices terrain c.args.k active c.requires.k.high)
-    (c.one_level_mesh.ensures.triangles terrain c.args.k active c.requires.k.high c.window-active.ensures.not_empty)
+    ∙ ap (λ (lists : MeshLists). told_line 0 (length lists.vertices) (length lists.triangles)) c.in_ok-mesh.ensures.value
+    ∙ ap (λ regions. told_line 0 (length (mesh c.args.grid.now c.args.k regions).vertices) (length (mesh c.args.grid.now c.args.k regions).triangles)) c.whole_regions-actives.ensures.value

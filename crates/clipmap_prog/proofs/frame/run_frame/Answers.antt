@@ -14,17 +14,14 @@ unfolding frame_outcome
 returns-in-Ok-clause-runs g c =
     let frame : FrameView = frame_view c.args.frame.now in
     let terrain = c.in-Ok.inputs.grid in
-    let one : 1 ≡ frame.levels = omega (arith, c.in-Ok.ensures.one_level, c.requires.in_range.levels_low) in
     let fits_x : FitsSigned w32 c.args.frame.now.x = omega (arith, ints, c.requires.in_range.x_low, c.requires.in_range.x_high) in
     let fits_y : FitsSigned w32 c.args.frame.now.y = omega (arith, ints, c.requires.in_range.y_low, c.requires.in_range.y_high) in
     let x : to_z w32 (of_z w32 c.args.frame.now.x) ≡ c.args.frame.now.x = to_z-of_z w32 c.args.frame.now.x fits_x in
     let y : to_z w32 (of_z w32 c.args.frame.now.y) ≡ c.args.frame.now.y = to_z-of_z w32 c.args.frame.now.y fits_y in
     let ran = simp (x, y) at c.run_course.ensures.ran in
-    let Does : ℕ → Type 0 = λ levels. Ran g.S.Shelf.leaves 0 (course_actions (Frame frame.k frame.x frame.y) terrain levels frame.out) c.run_course.result
-    (g.S.Shelf.told c.read_frame.new.shelf) (g.S.Shelf.told c.run_course.new.shelf) (g.K.Sink.told c.args.out.now) (g.K.Sink.told c.run_course.new.out) in
     concluded_done g.S.Shelf.leaves prepared_actions (frame_reading frame) (frame_over frame (inputs_view c.in-Ok.inputs)) c.run_course.result c.ended.result
     (g.S.Shelf.told c.args.shelf.now) (g.S.Shelf.told c.read_frame.new.shelf) (g.S.Shelf.told c.run_course.new.shelf) (g.K.Sink.told c.args.out.now) (g.K.Sink.told c.run_course.new.out)
-    c.in-Ok.ensures.found c.in-Ok.ensures.calls c.in-Ok.ensures.files_stay (subst Does one ran) c.ended.ensures.value
+    c.in-Ok.ensures.found c.in-Ok.ensures.calls c.in-Ok.ensures.files_stay ran c.ended.ensures.value
 
 pub returns-in-Err-Refused-clause-runs : goal.returns-in-Err-Refused-clause-runs
 unfolding frame_outcome

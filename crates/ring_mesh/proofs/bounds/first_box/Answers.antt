@@ -1,5 +1,5 @@
 -- The first corner of the first triangle, where there is one.
-use Rattle.std.proofs.Common.{◌≡◌, ℕ, ◌<◌, length, get_or, [], ap, arith, rules, ◌∙◌}
+use Rattle.std.proofs.Common.{◌≡◌, ◌<◌, length, get_or, [], ap, arith, rules, ◌∙◌}
 use Rattle.ring_mesh.specs.Boxes.{point_box}
 use Rattle.ring_mesh.proofs.Boxes.{no_box, some_box}
 use Rattle.ring_mesh.proofs.bounds.first_box.Goals as goal

@@ -1,5 +1,5 @@
 -- Four blocks round the hole, one after another.
-use Rattle.std.proofs.Common.{◌≡◌, ℕ, ◌+◌, ◌<◌, ◌^◌, List, [], ◌∷◌, ◌++◌, length, sym, subst}
+use Rattle.std.proofs.Common.{◌≡◌, ℕ, ◌+◌, ◌<◌, ◌^◌, List, [], ◌∷◌, length, sym, subst}
 use Rattle.std.proofs.lemmas.Result.{on_ok_weaker}
 use Rattle.clip_regions.specs.declared.region.Region.{Region}
 use Rattle.mesh_model.specs.declared.shapes.PartKind.TheVariants.{North, West, East, South}

@@ -1,5 +1,5 @@
 -- The squares of the block are those of the part.
-use Rattle.std.proofs.Common.{◌≡◌, ◌+◌, ◌<◌, ◌^◌, [], ◌∷◌, length, sym, subst}
+use Rattle.std.proofs.Common.{◌+◌, ◌<◌, ◌^◌, length, sym, subst}
 use Rattle.clip_regions.specs.declared.region.Region.{Region}
 use Rattle.mesh_laws.specs.Rings.{ring_triangles, ring_part}
 use Rattle.ring_mesh.specs.Squares.{HasSquares}

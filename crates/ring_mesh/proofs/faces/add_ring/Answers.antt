@@ -1,9 +1,8 @@
 -- Case by case.
-use Rattle.std.proofs.Common.{◌≡◌, ◌+◌, ◌<◌, ◌^◌, true, false, List, [], ◌∷◌, length, sym, ◌∙◌, subst, OnOk}
+use Rattle.std.proofs.Common.{◌≡◌, ◌+◌, ◌<◌, ◌^◌, true, false, List, length, sym, ◌∙◌, subst, OnOk}
 use Rattle.clip_regions.specs.Regions.{is_empty}
-use Rattle.mesh_model.specs.declared.shapes.PartKind.TheVariants.{Whole}
 use Rattle.mesh_model.specs.Parts.{PartTriangles}
-use Rattle.ring_mesh.specs.Added.{Adds, HasBlock, triangles_of, block_part, parts_around}
+use Rattle.ring_mesh.specs.Added.{Adds, triangles_of}
 use Rattle.ring_mesh.proofs.Added.{adds_none}
 use Rattle.ring_mesh.proofs.Blocks.{whole_block, cut_of, parts_none, parts_whole, parts_round}
 use Rattle.ring_mesh.proofs.faces.add_ring.Goals as goal

@@ -1,16 +1,12 @@
 -- Ring after ring.
-use Rattle.std.proofs.Common.{◌≡◌, ℕ, ◌+◌, ◌<◌, ◌^◌, ◌≤◌, List, [], ◌++◌, length, sym, ◌∙◌, subst, ap, rules, arith}
+use Rattle.std.proofs.Common.{◌≡◌, ℕ, ◌+◌, ◌<◌, ◌^◌, ◌≤◌, List, [], length, sym, ◌∙◌, subst, ap, arith}
 use Rattle.clip_regions.specs.declared.region.Region.{Region}
-use Rattle.clip_regions.specs.Regions.{empty_region}
-use Rattle.plan_model.specs.Laws.{IsEvenOrEmpty}
 use Rattle.mesh_model.specs.declared.shapes.Vertex.{Vertex}
 use Rattle.mesh_model.specs.declared.shapes.Part.{Part}
 use Rattle.mesh_model.specs.Height.{active_of}
-use Rattle.active_region.specs.Active.{AreActive}
 use Rattle.mesh_laws.specs.declared.ring.Ring.{Ring}
 use Rattle.mesh_laws.specs.Rings.{no_ring, next_ring, ring_parts}
 use Rattle.mesh_laws.specs.Conditions.{AreLinked, IsBefore}
-use Rattle.mesh_laws.specs.Laws.{NextLinked}
 use Rattle.ring_mesh.specs.Added.{Adds, IsUnderWay, triangles_of}
 use Rattle.ring_mesh.proofs.UnderWay.{start, step, few, done_triangles, done_parts}
 use Rattle.ring_mesh.proofs.faces.ring_faces.Goals as goal
@@ -20,7 +16,7 @@ started vertices actives finer t p ef et ep before =
     subst (λ (r : Ring). IsUnderWay vertices actives 0 r t p) (sym ef) (subst (λ x. IsUnderWay vertices actives 0 no_ring x p) (sym et) (subst (λ x. IsUnderWay vertices actives 0 no_ring [] x) (sym ep) (start vertices actives before)))
 
 pub loop-level-init : goal.loop-level-init
-loop-level-init c = started c.args.vertices.now c.args.actives.now c.no_ring-finer.result c.new.result.items c.new-2.result.items c.no_ring-finer.ensures.value c.new.ensures.items c.new-2.ensures.items (c.rings_are_linked.ensures.first c.args.actives.now)
+loop-level-init c = started c.args.vertices.now c.args.actives.now c.no_ring-finer.result c.in_ok-with_capacity.field-0.items c.new.result.items c.no_ring-finer.ensures.value c.in_ok-with_capacity.ensures.items c.new.ensures.items (c.rings_are_linked.ensures.first c.args.actives.now)
 
 -- the ring of the code is that of the definition
 ring_is : (actives : List Region) (level : ℕ) (finer ring : Ring) (active : Region) → active ≡ active_of actives level → ring ≡ next_ring finer active → ring ≡ next_ring finer (active_of actives level)

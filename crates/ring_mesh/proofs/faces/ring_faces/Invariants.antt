@@ -1,7 +1,3 @@
-use Rattle.std.proofs.Common.{◌≡◌, drop}
-use Rattle.mesh_model.specs.Mesh.{mesh_of_parts}
-use Rattle.mesh_laws.specs.Rings.{no_ring, ring_parts_from}
-use Rattle.mesh_laws.specs.Conditions.{IsBefore}
 use Rattle.ring_mesh.specs.Added.{IsUnderWay}
 use Rattle.ring_mesh.proofs.faces.ring_faces.Given as goal
 

@@ -1,5 +1,5 @@
 -- A cell of the hole is the finer cell with twice its column and row.
-use Rattle.std.proofs.Common.{◌≡◌, ℤ, Bool, true, pos, ◌*ℤ◌, ◌^◌, ◌≤ℤ◌, neg_ℤ, ap, sym, ◌∙◌, subst, w32, arith}
+use Rattle.std.proofs.Common.{◌≡◌, ℤ, Bool, true, pos, ◌*ℤ◌, ◌^◌, ◌≤ℤ◌, neg_ℤ, sym, ◌∙◌, subst, w32, arith}
 use Rattle.std.proofs.lemmas.Int.{ints, to_z-of_z}
 use Rattle.clip_regions.specs.declared.region.Region.{Region}
 use Rattle.clip_regions.specs.Regions.{contains, IsWithin}

@@ -1,5 +1,5 @@
 -- The numbers between the two corners, counted by their difference.
-use Rattle.std.proofs.Common.{◌≡◌, ◌≤◌, ◌*◌, ◌^◌, ℤ, pos, ◌+ℤ◌, ◌-ℤ◌, ◌≤ℤ◌, nat_abs, sym, w32, arith}
+use Rattle.std.proofs.Common.{◌≡◌, ℤ, pos, ◌+ℤ◌, ◌-ℤ◌, ◌≤ℤ◌, sym, w32, arith}
 use Rattle.std.proofs.lemmas.Int.{ints}
 use Rattle.clip_regions.specs.Regions.{columns}
 use Rattle.ring_mesh.proofs.Gaps.{gap_none, span_is}

@@ -1,9 +1,8 @@
 -- The square lies in the ring's region.
-use Rattle.std.proofs.Common.{rules, ◌≡◌, ℕ, ℤ, ◌<◌, ◌+◌, ◌++◌, ◌^◌, ◌≤ℤ◌, pos, neg_ℤ, ◌+ℤ◌, sym, ◌∙◌, subst, OnOk, w32, arith}
-use Rattle.std.proofs.lemmas.Int.{ints, to_z-of_z}
-use Rattle.std.specs.Int.{int_gap}
+use Rattle.std.proofs.Common.{◌≡◌, ℕ, ℤ, ◌<◌, ◌++◌, ◌^◌, ◌≤ℤ◌, pos, neg_ℤ, ◌+ℤ◌, sym, ◌∙◌, subst, OnOk, w32, arith}
+use Rattle.std.proofs.lemmas.Int.{ints}
 use Rattle.clip_regions.specs.declared.region.Region.{Region}
-use Rattle.clip_regions.specs.Regions.{columns, rows, IsWithin}
+use Rattle.clip_regions.specs.Regions.{columns, rows}
 use Rattle.mesh_laws.specs.Rings.{ring_square}
 use Rattle.ring_mesh.specs.Squares.{HasSquare, HasSquares}
 use Rattle.ring_mesh.proofs.Gaps.{gap_holds}

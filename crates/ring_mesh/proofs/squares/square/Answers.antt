@@ -1,5 +1,5 @@
 -- The four corners are those of the definition.
-use Rattle.std.proofs.Common.{◌≡◌, ℤ, [], ◌∷◌, pos, ◌+ℤ◌, ◌≤ℤ◌, ◌^◌, neg_ℤ, sym, ◌∙◌, subst, w32, arith}
+use Rattle.std.proofs.Common.{◌≡◌, ℤ, [], ◌∷◌, pos, ◌+ℤ◌, ◌≤ℤ◌, ◌^◌, neg_ℤ, ◌∙◌, w32, arith}
 use Rattle.std.proofs.lemmas.Int.{ints, to_z-of_z}
 use Rattle.clip_regions.specs.declared.region.Region.{Region}
 use Rattle.clip_regions.specs.Regions.{IsWithin}

@@ -1,0 +1,5 @@
+use Rattle.ring_mesh.specs.Listed.{IsListed}
+use Rattle.ring_mesh.proofs.vertices.ring_vertices.Given as goal
+
+abbrev pub invariant-loop-level : goal.invariant-loop-level
+invariant-loop-level g l = IsListed (g.G.Heights.terrain l.heights) l.k l.actives l.level l.finer l.vertices.items
