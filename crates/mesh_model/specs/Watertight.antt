@@ -1,6 +1,5 @@
 -- What it means that the mesh of some active regions has no gap: heights agree where levels meet, stitches are flat, triangles share their edges, and squares cover each place once.
-use Rattle.std.specs.Prelude.{◌≡◌, ℕ, ◌+◌, ◌-◌, ◌^◌, ◌<◌, Bool, not, ◌&&◌, ◌||◌, ◌==◌, IsTrue, ℤ, pos, ◌+ℤ◌, ◌*ℤ◌, int_le, int_lt, List, [], ◌∷◌, length, filter, count_by, flat_map, All, slice_index, slice_index_or}
-use Rattle.std.specs.Bool.{MatchBool}
+use Rattle.std.specs.Prelude.{◌≡◌, ℕ, ◌+◌, ◌-◌, ◌^◌, ◌<◌, Bool, not, if◌then◌else◌, ◌&&◌, ◌||◌, ◌==◌, IsTrue, ℤ, pos, ◌+ℤ◌, ◌*ℤ◌, int_le, int_lt, List, [], ◌∷◌, length, filter, count_by, flat_map, All, slice_index, slice_index_or}
 use Rattle.std.specs.Ordering.{int_eq}
 use Rattle.clip_regions.specs.declared.region.Region.{Region}
 use Rattle.clip_regions.specs.Regions.{contains, empty_region, cells}
@@ -28,17 +27,16 @@ unfoldable pub vertex_of_place : List Vertex → ℕ → Vertex
 vertex_of_place vertices place = slice_index_or vertices place (record { x = pos 0; z = pos 0; height = pos 0 })
 
 -- m stands in the middle between p and q, in position and in height
-pub record IsMiddle (p m q : Vertex) : Type 0 where
-  pub x : pos 2 *ℤ m.x ≡ p.x +ℤ q.x
-  pub z : pos 2 *ℤ m.z ≡ p.z +ℤ q.z
-  pub height : pos 2 *ℤ m.height ≡ p.height +ℤ q.height
+unfoldable pub is_middle : Vertex → Vertex → Vertex → Bool
+is_middle p m q =
+    (int_eq (pos 2 *ℤ m.x) (p.x +ℤ q.x) && int_eq (pos 2 *ℤ m.z) (p.z +ℤ q.z)) && int_eq (pos 2 *ℤ m.height) (p.height +ℤ q.height)
 
 -- the second vertex of each stitch stands in the middle between the first and the third
 abbrev pub StitchesAreFlat : Terrain → ℕ → List Region → Type 0
 StitchesAreFlat terrain k actives =
     let vertices = mesh_vertices terrain k actives in
     let at = vertex_of_place vertices in
-    All (λ stitch. IsMiddle (at (slice_index stitch 0)) (at (slice_index stitch 1)) (at (slice_index stitch 2)))
+    All (λ stitch. IsTrue (is_middle (at (slice_index stitch 0)) (at (slice_index stitch 1)) (at (slice_index stitch 2))))
     (flat_map (λ part. part.triangles) (all_stitch_parts vertices actives))
 
 -- does the triangle go from a to b along one of its edges?
@@ -53,22 +51,39 @@ has_edge a b triangle =
 unfoldable pub edge_count : List (List ℕ) → ℕ → ℕ → ℕ
 edge_count triangles a b = count_by (has_edge a b) triangles
 
--- two vertices lie on one and the same side of a region whose cells are this far apart
-unfoldable pub is_on_side : Region → ℤ → Vertex → Vertex → Bool
-is_on_side r spacing p q =
-    let both = λ (a b side : ℤ). int_eq a (side *ℤ spacing) && int_eq b (side *ℤ spacing) in
-    (both p.x q.x r.x0 || both p.x q.x r.x1) || (both p.z q.z r.y0 || both p.z q.z r.y1)
+-- a region of a level whose cells are this far apart, by positions
+unfoldable pub scaled : ℤ → Region → Region
+scaled spacing r =
+    record { x0 = r.x0 *ℤ spacing; y0 = r.y0 *ℤ spacing; x1 = r.x1 *ℤ spacing; y1 = r.y1 *ℤ spacing }
+
+-- the last of these regions, by positions: what a mesh covers
+unfoldable pub covered : List Region → Region
+covered actives =
+    let coarsest = length actives - 1 in
+    scaled (pos (2 ^ coarsest)) (active_of actives coarsest)
+
+-- both vertices stand on one and the same side of the region; an empty region has no side
+unfoldable pub is_on_side : Region → Vertex → Vertex → Bool
+is_on_side r p q =
+    let both = λ (a b side : ℤ). int_eq a side && int_eq b side in
+    (contains r p.x p.z && contains r q.x q.z) && ((both p.x q.x r.x0 || both p.x q.x r.x1) || (both p.z q.z r.y0 || both p.z q.z r.y1))
+
+-- so many triangles go along an edge one way and so many the other way: none at all, or, where the edge is on the border, one in all, else one each way
+unfoldable pub is_closed_by : ℕ → ℕ → Bool → Bool
+is_closed_by there back border =
+    there + back == 0 || (if border then there + back == 1 else there == 1 && back == 1)
+
+-- the edge between the vertices at two places is closed, where this region's sides are the border
+unfoldable pub is_closed : Region → List Vertex → List (List ℕ) → ℕ → ℕ → Bool
+is_closed border vertices triangles a b =
+    is_closed_by (edge_count triangles a b) (edge_count triangles b a)
+    (is_on_side border (vertex_of_place vertices a) (vertex_of_place vertices b))
 
 -- an edge on the border of the coarsest active region is in one triangle, and any other edge in two, once in each direction
 abbrev pub EdgesClose : Terrain → ℕ → List Region → Type 0
 EdgesClose terrain k actives =
     let lists = mesh terrain k actives in
-    let coarsest = length actives - 1 in
-    let side = is_on_side (active_of actives coarsest) (pos (2 ^ coarsest)) in
-    (a b : ℕ) → 0 < edge_count lists.triangles a b →
-    MatchBool (side (vertex_of_place lists.vertices a) (vertex_of_place lists.vertices b))
-    (edge_count lists.triangles a b + edge_count lists.triangles b a ≡ 1)
-    ((edge_count lists.triangles a b ≡ 1) × (edge_count lists.triangles b a ≡ 1))
+    (a b : ℕ) → IsTrue (is_closed (covered actives) lists.vertices lists.triangles a b)
 
 -- the north-west corners of the squares of an active region outside the hole
 unfoldable pub ring_squares : Region → Region → List (ℤ × ℤ)
@@ -93,11 +108,8 @@ cover_count level finer (active ∷ coarser) x z =
 -- each unit square of the coarsest active region lies in one ring square of one level
 abbrev pub SquaresCover : List Region → Type 0
 SquaresCover actives =
-    let coarsest = length actives - 1 in
-    let r = active_of actives coarsest in
-    let spacing = pos (2 ^ coarsest) in
-    (x z : ℤ) → IsTrue (int_le (r.x0 *ℤ spacing) x && int_lt x (r.x1 *ℤ spacing)) →
-    IsTrue (int_le (r.y0 *ℤ spacing) z && int_lt z (r.y1 *ℤ spacing)) →
+    let r = covered actives in
+    (x z : ℤ) → IsTrue (int_le r.x0 x && int_lt x r.x1) → IsTrue (int_le r.y0 z && int_lt z r.y1) →
     cover_count 0 empty_region actives x z ≡ 1
 
 -- the mesh of these active regions is watertight
