@@ -28,10 +28,10 @@ map_same f g (x ∷ xs) h =
     ∙ ap (λ rest. g x ∷ rest) (map_same f g xs (All-tail (λ z. f z ≡ g z) x xs h))
 
 -- a cell on one of the four sides of a region
-abbrev OnSide : Region → ℤ → ℤ → Type 0
+abbrev pub OnSide : Region → ℤ → ℤ → Type 0
 OnSide r i j = (i ≡ r.x0) ⊎ ((i ≡ r.x1) ⊎ ((j ≡ r.y0) ⊎ (j ≡ r.y1)))
 
-not_deep : (e : ℕ) (active gap : Region) (i j : ℤ) → 1 ≤ e → IsDeep e active gap → Lies gap i j → OnSide active i j → ⊥
+pub not_deep : (e : ℕ) (active gap : Region) (i j : ℤ) → 1 ≤ e → IsDeep e active gap → Lies gap i j → OnSide active i j → ⊥
 not_deep e active gap i j some d l (inl side) = omega (arith, ints, some, d.west, l.west, side)
 not_deep e active gap i j some d l (inr (inl side)) = omega (arith, ints, some, d.east, l.east, side)
 not_deep e active gap i j some d l (inr (inr (inl side))) = omega (arith, ints, some, d.north, l.north, side)

@@ -26,28 +26,28 @@ part_squares_are vertices level finer active =
     ]
 
 -- ---- counts
-one_if : Bool → ℕ
+unfoldable pub one_if : Bool → ℕ
 one_if b = cond b 1 0
 
-count_cons : {X : Type 0} (p : X → Bool) (x : X) (xs : List X) → count_by p (x ∷ xs) ≡ one_if (p x) + count_by p xs
+pub count_cons : {X : Type 0} (p : X → Bool) (x : X) (xs : List X) → count_by p (x ∷ xs) ≡ one_if (p x) + count_by p xs
 unfolding one_if
 count_cons p x xs =
     sum_by-append (λ y. cond (p y) 1 0) (x ∷ []) xs ∙ ap (λ (n : ℕ). n + count_by p xs) (zero-add (cond (p x) 1 0))
 
-one_and : (x y : Bool) → one_if (x && y) ≡ one_if x * one_if y
+pub one_and : (x y : Bool) → one_if (x && y) ≡ one_if x * one_if y
 unfolding one_if
 one_and true y = omega arith
 one_and false y = omega arith
 
 -- how often a number lies between two lines
-between : ℤ → ℤ → ℤ → ℕ
+unfoldable pub between : ℤ → ℤ → ℤ → ℕ
 between a b i = one_if (le_z a i && le_z i (b -ℤ pos 1))
 
 axis : (a p q b i : ℤ) → a ≤ℤ p → p ≤ℤ q → q ≤ℤ b → between a p i + between p q i + between q b i ≡ between a b i
 unfolding between one_if
 axis a p q b i h k l = grind (arith, ints)
 
-square_is : (x0 x1 y0 y1 i j : ℤ) → one_if (contains (squares_between x0 x1 y0 y1) i j) ≡ between x0 x1 i * between y0 y1 j
+pub square_is : (x0 x1 y0 y1 i j : ℤ) → one_if (contains (squares_between x0 x1 y0 y1) i j) ≡ between x0 x1 i * between y0 y1 j
 unfolding contains squares_between between
 square_is x0 x1 y0 y1 i j = one_and (le_z x0 i && le_z i (x1 -ℤ pos 1)) (le_z y0 j && le_z j (y1 -ℤ pos 1))
 

@@ -94,11 +94,11 @@ mean_at_most w q p m t own a b eq ep few et ho ha hb =
     (sum_at_most ((w - m) * q * 2 ^ 15) (m * p * 2 ^ 16) (2 ^ 20) (pos ((w - m) * q) *ℤ own) (pos (m * p) *ℤ (a +ℤ b)) (omega (arith, weights)) first second)
 
 -- the weights of the five sizes
-record AreWeights (w : ℕ) : Type 0 where
-  whole : w * (32 / w) ≡ 32
-  twice : 32 / w ≡ 2 * (16 / w)
+pub record AreWeights (w : ℕ) : Type 0 where
+  pub whole : w * (32 / w) ≡ 32
+  pub twice : 32 / w ≡ 2 * (16 / w)
 
-weights_of : (m : ℕ) → m ≤ 4 → AreWeights (2 ^ m)
+pub weights_of : (m : ℕ) → m ≤ 4 → AreWeights (2 ^ m)
 weights_of zero h = record { whole = refl; twice = refl }
 weights_of (suc zero) h = record { whole = refl; twice = refl }
 weights_of (suc (suc zero)) h = record { whole = refl; twice = refl }

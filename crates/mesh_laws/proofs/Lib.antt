@@ -13,3 +13,7 @@ pub mod Few
 pub mod Reaches
 pub mod Heights
 pub mod Covered
+pub mod Seams
+pub mod Standing
+pub mod Flat
+pub mod Once

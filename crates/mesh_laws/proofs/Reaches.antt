@@ -18,7 +18,7 @@ use Rattle.mesh_laws.proofs.Rectangles.{lies}
 use Rattle.mesh_laws.proofs.Sizes.{half_at_most}
 
 -- ---- products
-sum_times : (a b : ℤ) (p : ℕ) → (a +ℤ b) *ℤ pos p ≡ a *ℤ pos p +ℤ b *ℤ pos p
+pub sum_times : (a b : ℤ) (p : ℕ) → (a +ℤ b) *ℤ pos p ≡ a *ℤ pos p +ℤ b *ℤ pos p
 sum_times a b p =
     let scaled : (up (a +ℤ b) + (down a + down b)) * p ≡ (down (a +ℤ b) + (up a + up b)) * p = ap (λ (n : ℕ). n * p) (omega (arith, sum_is_lem a b)) in
     omega (arith, ints, scaled)
@@ -29,7 +29,7 @@ difference_times a h p =
     let scaled : (up (a -ℤ pos h) + (down a + h)) * p ≡ (down (a -ℤ pos h) + up a) * p = ap (λ (n : ℕ). n * p) parts in
     omega (arith, ints, scaled)
 
-twice_times : (q : ℤ) (p : ℕ) → (pos 2 *ℤ q) *ℤ pos p ≡ pos (2 * p) *ℤ q
+pub twice_times : (q : ℤ) (p : ℕ) → (pos 2 *ℤ q) *ℤ pos p ≡ pos (2 * p) *ℤ q
 twice_times q p =
     let above : up (pos 2 *ℤ q) ≡ 2 * up q = omega (arith, product_is (pos 2) q) in
     let below : down (pos 2 *ℤ q) ≡ 2 * down q = omega (arith, product_is (pos 2) q) in
@@ -37,13 +37,13 @@ twice_times q p =
     let scaled_below : down (pos 2 *ℤ q) * p ≡ (2 * down q) * p = ap (λ (n : ℕ). n * p) below in
     omega (arith, ints, scaled_above, scaled_below)
 
-order_times : (a b : ℤ) (p : ℕ) → a ≤ℤ b → (a *ℤ pos p) ≤ℤ (b *ℤ pos p)
+pub order_times : (a b : ℤ) (p : ℕ) → a ≤ℤ b → (a *ℤ pos p) ≤ℤ (b *ℤ pos p)
 order_times a b p h =
     let gap : up a + down b ≤ up b + down a = omega (arith, ints) in
     let scaled : (up a + down b) * p ≤ (up b + down a) * p = mul-le-mul gap (le_refl p) in
     omega (arith, ints, scaled)
 
-unit_times : (p : ℕ) → pos 1 *ℤ pos p ≡ pos p
+pub unit_times : (p : ℕ) → pos 1 *ℤ pos p ≡ pos p
 unit_times p = omega (arith, ints)
 
 -- the centre for the quotient q, in samples: p is the spacing of the level
@@ -52,12 +52,12 @@ center_in_samples q p =
     sum_times (pos 2 *ℤ q) (pos 1) p ∙ (λ t. twice_times q p t +ℤ unit_times p t)
 
 -- ---- centres
-rem_below : (a : ℤ) (d : ℕ) → 0 < d → floor_rem a d < d
+pub rem_below : (a : ℤ) (d : ℕ) → 0 < d → floor_rem a d < d
 unfolding floor_rem
 rem_below (pos n) d h = omega arith
 rem_below (negsuc n) d h = omega arith
 
-quotient_and_rest : (a : ℤ) (d : ℕ) → 0 < d → a ≡ pos d *ℤ floor_div a d +ℤ pos (floor_rem a d)
+pub quotient_and_rest : (a : ℤ) (d : ℕ) → 0 < d → a ≡ pos d *ℤ floor_div a d +ℤ pos (floor_rem a d)
 unfolding floor_div floor_rem
 quotient_and_rest (pos n) d h = omega (arith, ints)
 quotient_and_rest (negsuc n) d h = omega (arith, ints)

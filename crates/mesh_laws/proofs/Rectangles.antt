@@ -161,7 +161,7 @@ twice_to a i h =
     omega (arith, ints)
 
 -- ---- the hole
-hole_of_empty : (finer : Region) → is_empty finer ≡ true → hole finer ≡ empty_region
+pub hole_of_empty : (finer : Region) → is_empty finer ≡ true → hole finer ≡ empty_region
 unfolding hole
 hole_of_empty finer e = rw e refl
 

@@ -3,3 +3,4 @@ pub mod Stitches
 pub mod Squares
 pub mod Conditions
 pub mod Laws
+pub mod Seams

@@ -1,6 +1,7 @@
 //! Laws over the definitions alone: each function's contract is the law.
 
 ghost use Rattle.mesh_laws.specs.Laws.{RingParts, RingStitches, RingRows, WholeRow, CutRow, HoleCells, CellsAreContained, HolesAreSmall, FirstRing, NextLinked, NextRing, RingSize, ActivesReach, CellsReach, LowerEnds, UpperEnds, UnstitchedNames, FewVertices, FewTriangles, FewRingTriangles, HeightsAreSmall, PartSquares, SquaresOnce};
+ghost use Rattle.mesh_laws.specs.Seams.{BordersAgree, FlatStitches, CoveringSquares};
 
 use mesh_model::{nested_counts, nested_names, vertices_apart};
 
@@ -72,4 +73,21 @@ pub fn heights_are_small()
 pub fn parts_have_ring_squares()
     ensures squares { PartSquares }
     ensures once { SquaresOnce }
+{}
+
+/// Where a level's vertices stand on the border of the finer active region, both levels give one height.
+pub fn borders_agree()
+    ensures { BordersAgree }
+{}
+
+/// The middle vertex of each stitch stands in the middle between the two others, in position and in height.
+pub fn stitches_are_flat()
+    ensures { FlatStitches }
+{
+    vertices_apart();
+}
+
+/// Each unit square of the coarsest active region lies in one ring square of one level.
+pub fn squares_cover()
+    ensures { CoveringSquares }
 {}
