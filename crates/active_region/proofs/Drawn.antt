@@ -10,7 +10,8 @@ use Rattle.clip_regions.specs.Regions.{is_empty, empty_region, meet, IsWithin}
 use Rattle.plan_model.specs.Window.{margin}
 use Rattle.plan_model.specs.Actives.{drawable, inner, active_of, actives_by, filled_from, actives}
 use Rattle.active_region.specs.Active.{IsNearOrEmpty, IsWideOrEmpty}
-use Rattle.active_region.proofs.Regions.{empty_is_empty, meet_none, empty_within, meet_within, drawable_none, drawable_wide, drawable_within}
+use Rattle.active_region.proofs.Regions.{meet_none, meet_within, drawable_none, drawable_wide, drawable_within}
+use Rattle.clip_regions.proofs.Cells.{empty_is_empty, empty_within}
 
 -- a level of which nothing is filled shows nothing
 pub active_of_none : (e : ℕ) (filled : Region) (rest : List Region) → is_empty filled ≡ true → active_of e filled rest ≡ empty_region

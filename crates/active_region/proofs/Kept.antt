@@ -16,8 +16,9 @@ use Rattle.plan_model.specs.Sound.{IsPartOf, IsShown}
 use Rattle.plan_laws.specs.Drawn.{ActivesAreAsMany, AreShown, ActivesAreShown}
 use Rattle.plan_sound.specs.Laws.{WindowsAreNear}
 use Rattle.active_region.specs.Active.{AreFilled, IsNearOrEmpty, AreDrawn}
-use Rattle.active_region.proofs.Regions.{empty_is_empty, spelled_empty, spelled_other, part_within}
+use Rattle.active_region.proofs.Regions.{part_within}
 use Rattle.active_region.proofs.Drawn.{active_of_none, actives_wide}
+use Rattle.clip_regions.proofs.Cells.{empty_is_empty, spelled_empty, spelled_other}
 
 -- ---- where regions lie
 shown_near : WindowsAreNear → (k level : ℕ) (r : Region) → IsSize k → IsShown k level r → IsWithin (2 ^ 24) r

@@ -9,18 +9,18 @@ use Rattle.plan_model.specs.Window.{window, center, half_width}
 use Rattle.plan_model.specs.Sound.{IsInside, IsPartOf, IsShown}
 use Rattle.active_region.specs.Active.{AreFilled}
 
-abbrev round : Region
+abbrev pub round : Region
 round = record { x0 = negsuc 5; y0 = negsuc 5; x1 = pos 8; y1 = pos 8 }
 
-window_finest : window 4 0 (pos 1) (pos 1) ≡ round
+pub window_finest : window 4 0 (pos 1) (pos 1) ≡ round
 unfolding window center half_width floor_div
 window_finest = refl
 
-window_next : window 4 1 (pos 1) (pos 1) ≡ round
+pub window_next : window 4 1 (pos 1) (pos 1) ≡ round
 unfolding window center half_width floor_div
 window_next = refl
 
-viewed : IsViewed (pos 1)
+pub viewed : IsViewed (pos 1)
 viewed = record { low = omega (arith, ints); high = omega (arith, ints) }
 
 shown : (level : ℕ) (r : Region) → window 4 level (pos 1) (pos 1) ≡ round → IsInside round r → HasEvenCorners r → IsShown 4 level r

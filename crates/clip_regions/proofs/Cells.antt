@@ -94,7 +94,7 @@ empty_if_none r none =
     ]
 
 -- regions of equal corners are equal
-abbrev corners : ℤ → ℤ → ℤ → ℤ → Region
+abbrev pub corners : ℤ → ℤ → ℤ → ℤ → Region
 corners west north east south = record { x0 = west; y0 = north; x1 = east; y1 = south }
 
 pub same_corners : (r s : Region) → r.x0 ≡ s.x0 → r.y0 ≡ s.y0 → r.x1 ≡ s.x1 → r.y1 ≡ s.y1 → r ≡ s
@@ -172,7 +172,19 @@ within a b e some =
     let along : (le_z a.y0 b.y0 ≡ true) × (le_z b.y1 a.y1 ≡ true) = and_parts (le_z a.y0 b.y0) (le_z b.y1 a.y1) parts.1 in
     record { west = tested_le a.x0 b.x0 across.0; east = tested_le b.x1 a.x1 across.1; north = tested_le a.y0 b.y0 along.0; south = tested_le b.y1 a.y1 along.1 }
 
-held_cell : (a b : Region) → Within a b → (i j : ℤ) → Lies b i j → Lies a i j
+-- a region that has one with a cell within its corners has a cell
+pub larger_has_cell : (a b : Region) → Within a b → HasCell b → HasCell a
+larger_has_cell a b w some = record { across = omega (arith, ints); along = omega (arith, ints) }
+
+-- a region whose spelling has a cell is spelled as it is
+pub spelled_same : (r : Region) → HasCell (spelled r) → spelled r ≡ r
+spelled_same r some =
+    elim (cases_Bool (is_empty r)) [
+      | inl e ↦ absurd (true≢false (sym (ap is_empty (spelled_empty r e) ∙ empty_is_empty) ∙ not_empty (spelled r) some))
+      | inr e ↦ spelled_other r e
+    ]
+
+pub held_cell : (a b : Region) → Within a b → (i j : ℤ) → Lies b i j → Lies a i j
 held_cell a b w i j h = record { west = omega (arith, ints); east = omega (arith, ints); north = omega (arith, ints); south = omega (arith, ints) }
 
 all_held : (a b : Region) → holds a b ≡ true → (i j : ℤ) → contains b i j ≡ true → contains a i j ≡ true
@@ -211,7 +223,7 @@ both_lies a b i j h k = record {
   south = grind (arith, ints);
 }
 
-in_left : (a b : Region) → Within a (both a b)
+pub in_left : (a b : Region) → Within a (both a b)
 unfolding both
 in_left a b = record {
   west = grind (arith, ints);
@@ -220,7 +232,7 @@ in_left a b = record {
   south = grind (arith, ints);
 }
 
-in_right : (a b : Region) → Within b (both a b)
+pub in_right : (a b : Region) → Within b (both a b)
 unfolding both
 in_right a b = record {
   west = grind (arith, ints);

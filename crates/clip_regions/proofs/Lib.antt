@@ -2,3 +2,4 @@ pub mod Numbers
 pub mod Quotients
 pub mod Cells
 pub mod Sizes
+pub mod Gaps

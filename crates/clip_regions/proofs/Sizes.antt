@@ -166,7 +166,7 @@ even_twice z =
     let whole : pos 2 *ℤ z ≡ pos 2 *ℤ floor_div (pos 2 *ℤ z) 2 +ℤ pos (floor_rem (pos 2 *ℤ z) 2) = quotient_and_rest (pos 2 *ℤ z) 2 (omega arith) in
     omega (arith, ints)
 
-doubled_even : (r : Region) → HasEvenCorners (doubled r)
+pub doubled_even : (r : Region) → HasEvenCorners (doubled r)
 unfolding doubled
 doubled_even r = record { x0 = even_twice r.x0; y0 = even_twice r.y0; x1 = even_twice r.x1; y1 = even_twice r.y1 }
 
@@ -185,7 +185,7 @@ double_halve r q even e some =
     ap double half ∙ double_where_cell (halved r) cell ∙ doubled_half (halved r) r t
 
 -- ---- how many cells
-gap_is : (a b : ℤ) → a ≤ℤ b → pos (int_gap a b) ≡ b -ℤ a
+pub gap_is : (a b : ℤ) → a ≤ℤ b → pos (int_gap a b) ≡ b -ℤ a
 gap_is (pos a) (pos b) h = omega (arith, ints)
 gap_is (pos a) (negsuc b) h = absurd (omega (arith, ints))
 gap_is (negsuc a) (pos b) h = omega (arith, ints)
@@ -197,11 +197,11 @@ no_gap (pos a) (negsuc b) h = refl
 no_gap (negsuc a) (pos b) h = absurd (omega (arith, ints))
 no_gap (negsuc a) (negsuc b) h = omega (arith, ints)
 
-columns_are : (r : Region) → HasCell r → pos (columns r) ≡ r.x1 +ℤ pos 1 -ℤ r.x0
+pub columns_are : (r : Region) → HasCell r → pos (columns r) ≡ r.x1 +ℤ pos 1 -ℤ r.x0
 unfolding columns
 columns_are r some = gap_is r.x0 (r.x1 +ℤ pos 1) (omega (arith, ints))
 
-rows_are : (r : Region) → HasCell r → pos (rows r) ≡ r.y1 +ℤ pos 1 -ℤ r.y0
+pub rows_are : (r : Region) → HasCell r → pos (rows r) ≡ r.y1 +ℤ pos 1 -ℤ r.y0
 unfolding rows
 rows_are r some = gap_is r.y0 (r.y1 +ℤ pos 1) (omega (arith, ints))
 
@@ -248,12 +248,12 @@ area_none r n e =
     (λ (t : is_empty r ≡ true). e ∙ no_area r t, λ (z : n ≡ 0). elim (cases_Bool (is_empty r)) [ inl t ↦ t | inr f ↦ absurd (some_area r (has_cell r f) (sym e ∙ z)) ])
 
 -- rows of one length
-length_rows : {A B : Type 0} (row : A → List B) (n : ℕ) → ((j : A) → length (row j) ≡ n) → (js : List A) → length (flat_map row js) ≡ n * length js
+pub length_rows : {A B : Type 0} (row : A → List B) (n : ℕ) → ((j : A) → length (row j) ≡ n) → (js : List A) → length (flat_map row js) ≡ n * length js
 length_rows row n each [] = omega arith
 length_rows row n each (j ∷ js) =
     length-append (row j) (flat_map row js) ∙ ap₂ (λ (x y : ℕ). x + y) (each j) (length_rows row n each js) ∙ omega arith
 
-length_numbers : (a : ℤ) (n : ℕ) → length (numbers_from a n) ≡ n
+pub length_numbers : (a : ℤ) (n : ℕ) → length (numbers_from a n) ≡ n
 length_numbers a n = length-map (range_with_len 0 n) (λ (i : ℕ). a +ℤ pos i) ∙ length-range_with_len 0 n
 
 pub length_cells : (r : Region) → area r ≡ length (cells r)

@@ -51,7 +51,7 @@ impl Region {
         self.x0 > self.x1 || self.y0 > self.y1
     }
 
-    /// The region, or (0, 0, −1, −1) where it has no cell.
+    // The region, or (0, 0, −1, −1) where it has no cell.
     fn spelled(self) -> Region
         ensures value { result ≡ spelled self }
     {

@@ -11,6 +11,7 @@ use Rattle.four_point.specs.Patches.{IsAtMost}
 use Rattle.four_point.specs.Steps.{IsStep, IsNear, code_of, value_of, brought}
 use Rattle.four_point.specs.Laws.{IsWithinHalf}
 use Rattle.four_point.proofs.LawLemmas.{prediction_size}
+use Rattle.clip_regions.proofs.Quotients.{rem_below, quotient_and_rest}
 
 sign_of : (z : ℤ) → (pos 0 ≤ℤ z) ⊎ (z <ℤ pos 0)
 sign_of (pos n) = inl (omega (arith, ints))
@@ -27,16 +28,6 @@ quotient_size distance half z step size s e zero below =
     (sign_of (distance +ℤ half))
 
 -- ---- division that rounds down
-rem_below : (a : ℤ) (d : ℕ) → 0 < d → floor_rem a d < d
-unfolding floor_rem
-rem_below (pos n) d h = omega arith
-rem_below (negsuc n) d h = omega arith
-
-quotient_and_rest : (a : ℤ) (d : ℕ) → 0 < d → a ≡ pos d *ℤ floor_div a d +ℤ pos (floor_rem a d)
-unfolding floor_div floor_rem
-quotient_and_rest (pos n) d h = omega (arith, ints)
-quotient_and_rest (negsuc n) d h = omega (arith, ints)
-
 at_zero_or_more : (a : ℤ) (d : ℕ) → pos 0 ≤ℤ a → (pos 0 ≤ℤ floor_div a d) × (floor_div a d ≤ℤ a)
 unfolding floor_div
 at_zero_or_more (pos n) d p = let least : n / d ≤ n = div-le_self n d in (omega (arith, ints), omega (arith, ints))

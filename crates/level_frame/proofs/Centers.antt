@@ -5,7 +5,8 @@ use Rattle.std.specs.Int.{int_max}
 use mathlib.Core.Path.{ap₂}
 use mir.Syntax.{w32}
 use mir.Val.{SFits, of_z, to_z}
-use Rattle.level_frame.proofs.Numbers.{read_back, sum_times, twice_times}
+use Rattle.level_frame.proofs.Numbers.{sum_times, twice_times}
+use Rattle.clip_regions.proofs.Numbers.{read_back}
 
 unit_times : (p : ℕ) → pos 1 *ℤ pos p ≡ pos p
 unit_times p = omega (arith, ints)

@@ -1,5 +1,5 @@
 -- The corners of a window.
-use Rattle.std.proofs.Common.{◌≡◌, ℕ, ◌+◌, ◌-◌, ◌*◌, ◌^◌, ◌≤◌, false, ℤ, pos, negsuc, neg_ℤ, ◌+ℤ◌, ◌-ℤ◌, ◌*ℤ◌, ◌≤ℤ◌, ap, sym, ◌∙◌, subst, arith}
+use Rattle.std.proofs.Common.{◌≡◌, ℕ, ◌+◌, ◌-◌, ◌*◌, ◌^◌, ◌≤◌, false, ℤ, pos, neg_ℤ, ◌+ℤ◌, ◌-ℤ◌, ◌*ℤ◌, ◌≤ℤ◌, sym, subst, arith}
 use Rattle.std.proofs.lemmas.Int.{ints}
 use Rattle.std.proofs.lemmas.Bool.{or_from}
 use Rattle.std.proofs.Math.Nat.{mul-le-mul}
@@ -9,20 +9,9 @@ use Rattle.clip_regions.specs.FloorDivision.{floor_div, floor_rem}
 use Rattle.clip_regions.specs.Regions.{is_empty, HasEvenCorners}
 use Rattle.plan_model.specs.Limits.{IsViewed}
 use Rattle.plan_model.specs.Window.{window, center, half_width, IsInReach}
-use Rattle.level_frame.proofs.Numbers.{sum_times, difference_times, doubled_power, power_least}
-
--- regions of equal corners are equal
-abbrev corners : ℤ → ℤ → ℤ → ℤ → Region
-corners west north east south = record { x0 = west; y0 = north; x1 = east; y1 = south }
-
-pub same_corners : (r s : Region) → r.x0 ≡ s.x0 → r.y0 ≡ s.y0 → r.x1 ≡ s.x1 → r.y1 ≡ s.y1 → r ≡ s
-same_corners r s a b c d =
-    ap (λ (v : ℤ). corners v r.y0 r.x1 r.y1) a ∙ ap (λ (v : ℤ). corners s.x0 v r.x1 r.y1) b ∙ ap (λ (v : ℤ). corners s.x0 s.y0 v r.y1) c ∙ ap (λ (v : ℤ). corners s.x0 s.y0 s.x1 v) d
-
-pub even_from : (z h : ℤ) → z ≡ pos 2 *ℤ h → floor_rem z 2 ≡ 0
-unfolding floor_rem
-even_from (pos n) h e = omega (arith, ints)
-even_from (negsuc n) h e = omega (arith, ints)
+use Rattle.level_frame.proofs.Numbers.{sum_times, difference_times}
+use Rattle.plan_model.proofs.Quotients.{even_from}
+use Rattle.plan_model.proofs.WindowLaws.{half_is}
 
 -- a corner that lies h before or after the centre, in samples
 pub corner_west : (z v : ℤ) (h p : ℕ) → h ≤ 127 → p ≤ 2048 → neg_ℤ (pos 4194304) ≤ℤ v → (v -ℤ pos p) ≤ℤ (z *ℤ pos p) → neg_ℤ (pos (2 ^ 23)) ≤ℤ ((z -ℤ pos h) *ℤ pos p)
@@ -40,14 +29,6 @@ corner_east z v h p hm pm high near =
     subst (λ (x : ℤ). x ≤ℤ pos (2 ^ 23)) (sym parts) placed
 
 -- ---- what is true of every window
-half_is : (k : ℕ) → 2 ≤ k → half_width k + 1 ≡ 2 * 2 ^ (k - 2)
-unfolding half_width
-half_is k h =
-    let next : k - 1 ≡ k - 2 + 1 = omega arith in
-    let twice : 2 ^ (k - 1) ≡ 2 * 2 ^ (k - 2) = ap (λ (n : ℕ). 2 ^ n) next ∙ doubled_power (k - 2) in
-    let some : 1 ≤ 2 ^ (k - 2) = power_least 0 (k - 2) (omega arith) in
-    omega arith
-
 even_before : (k level : ℕ) (v : ℤ) → 2 ≤ k → floor_rem (center level v -ℤ pos (half_width k)) 2 ≡ 0
 unfolding center
 even_before k level v h =

@@ -1,15 +1,9 @@
 -- A signed number that went to its bits and was read again, powers of two, and products of sums.
 use Rattle.std.proofs.Common.{◌≡◌, ℕ, ◌+◌, ◌*◌, ◌^◌, ◌≤◌, ℤ, pos, ◌+ℤ◌, ◌-ℤ◌, ◌*ℤ◌, ap, ◌∙◌, arith}
-use Rattle.std.proofs.lemmas.Int.{to_z-of_z, ints}
+use Rattle.std.proofs.lemmas.Int.{ints}
 use Rattle.std.proofs.Math.Pow.{pow_mono}
 use Rattle.std.proofs.lemmas.Nat.{pow-add}
 use borrow.Author.Differences.{up, down, sum_is_lem, product_is}
-use mir.Syntax.{w32}
-use mir.Val.{SFits, of_z, to_z}
-
--- it is the number, where that fits
-pub read_back : (z : ℤ) → SFits w32 z → to_z w32 (of_z w32 z) ≡ z
-read_back z fits = to_z-of_z w32 z fits
 
 pub power_least : (a b : ℕ) → a ≤ b → 2 ^ a ≤ 2 ^ b
 power_least a b h = pow_mono h

@@ -16,9 +16,11 @@ use Rattle.mesh_model.specs.Laws.{VerticesApart, OwnPlaces}
 use Rattle.mesh_laws.specs.declared.ring.Ring.{Ring}
 use Rattle.mesh_laws.specs.Rings.{no_ring, next_ring, place_in}
 use Rattle.mesh_laws.specs.Stitches.{row_places, column_places, ring_stitches, ring_stitches_from, all_ring_stitches}
-use Rattle.mesh_laws.proofs.Rectangles.{Lies, lies, HasCell, has_cell, cell_in, IsInner, IsDeep, hole_deep}
-use Rattle.mesh_laws.proofs.Cells.{all_between}
+use Rattle.mesh_laws.proofs.Rectangles.{IsDeep, hole_deep}
 use Rattle.mesh_laws.proofs.Places.{IsPlaced, ArePlaced, all_placed, from_nothing}
+use Rattle.clip_regions.proofs.Cells.{Lies, lies, HasCell, has_cell, cell_in}
+use Rattle.mesh_model.proofs.Rectangles.{IsInner}
+use Rattle.mesh_model.proofs.Cells.{all_between}
 
 -- two functions that agree on a list give one list
 map_same : {A B : Type 0} (f g : A → B) (xs : List A) → All (λ x. f x ≡ g x) xs → map f xs ≡ map g xs

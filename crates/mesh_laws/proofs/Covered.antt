@@ -12,7 +12,8 @@ use Rattle.mesh_model.specs.Vertices.{hole}
 use Rattle.mesh_model.specs.Parts.{squares_between, square_part, square_parts}
 use Rattle.mesh_laws.specs.Conditions.{IsCut, HasHole}
 use Rattle.mesh_laws.specs.Squares.{squares_in, part_squares, triangles_in}
-use Rattle.mesh_laws.proofs.Rectangles.{Lies, lies, HasCell, has_cell, none_in, empty_is_empty}
+use Rattle.clip_regions.proofs.Cells.{Lies, lies, HasCell, has_cell, empty_is_empty}
+use Rattle.mesh_model.proofs.Rectangles.{none_in}
 
 pub part_squares_are : (vertices : List Vertex) (level : ℕ) (finer active : Region) → map (λ part. part.triangles) (square_parts vertices level finer active) ≡ map (triangles_in vertices level) (part_squares finer active)
 unfolding square_parts square_part part_squares triangles_in squares_in

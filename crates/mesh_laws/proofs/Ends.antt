@@ -8,8 +8,10 @@ use Rattle.plan_model.specs.Window.{margin}
 use Rattle.mesh_model.specs.Height.{active_of, lower_end, upper_end}
 use Rattle.mesh_model.specs.Vertices.{hole}
 use Rattle.active_region.specs.Active.{AreActive}
-use Rattle.mesh_laws.proofs.Rectangles.{Lies, lies, lying, HasCell, cell_in, Within, hole_within, hole_is, even_if_cell, half_order, half_and_rest, rem_below, halved}
 use Rattle.mesh_laws.proofs.Sizes.{even_of, inner_of}
+use Rattle.clip_regions.proofs.Cells.{Lies, lies, lying, HasCell, cell_in, Within}
+use Rattle.mesh_model.proofs.Rectangles.{hole_within, hole_is, half_order, half_and_rest, rem_below, halved}
+use Rattle.plan_model.proofs.ActiveLaws.{even_if_cell}
 
 -- the cell after, halved, lies no farther than the last corner halved, which is even
 half_after : (i b : ℤ) → floor_rem b 2 ≡ 0 → i ≤ℤ b → floor_div (i +ℤ pos 1) 2 ≤ℤ floor_div b 2

@@ -18,8 +18,8 @@ use Rattle.mesh_model.specs.Nested.{vertex_count, square_count, ring_count, bord
 use Rattle.mesh_model.specs.Conditions.{NameVertices}
 use Rattle.active_region.specs.Active.{AreActive}
 use Rattle.mesh_laws.specs.Conditions.{IsSmall}
-use Rattle.mesh_laws.proofs.Lists.{all_left}
 use Rattle.mesh_laws.proofs.Sizes.{small_of}
+use Rattle.mesh_model.proofs.Whole.{all_left}
 
 all_small : (actives : List Region) → AreActive actives → All IsSmall actives
 unfolding active_of

@@ -26,13 +26,16 @@ use Rattle.mesh_model.specs.Laws.{VerticesApart, OwnPlaces}
 use Rattle.mesh_model.specs.Vertices.{hole, vertex_at, mesh_vertices, listed_vertices}
 use Rattle.mesh_model.specs.Parts.{PartTriangles, corner_place, stitches_from, stitches_along, places_in_row, places_in_column, stitch_part, stitch_parts, stitch_parts_from, all_stitch_parts}
 use Rattle.mesh_model.specs.Watertight.{vertex_of_place, is_middle, StitchesAreFlat}
-use Rattle.mesh_laws.proofs.Rectangles.{Lies, lies, HasCell, has_cell, cell_in, half_and_rest, IsInner, hole_deep, even_if_cell, not_empty}
-use Rattle.mesh_laws.proofs.Cells.{gap_is}
-use Rattle.mesh_laws.proofs.Rows.{map_of_map}
+use Rattle.mesh_laws.proofs.Rectangles.{hole_deep}
+use Rattle.clip_regions.proofs.Gaps.{gap_by}
 use Rattle.mesh_laws.proofs.Borders.{OnSide, not_deep}
 use Rattle.mesh_laws.proofs.Seams.{lower_of_twice, upper_of_twice, lower_of_next, upper_of_next, height_at_border}
 use Rattle.mesh_laws.proofs.Standing.{IsListed, AreListed, vertex_there, all_listed}
 use Rattle.mesh_laws.proofs.Places.{from_nothing}
+use Rattle.clip_regions.proofs.Cells.{Lies, lies, HasCell, has_cell, cell_in, not_empty}
+use Rattle.mesh_model.proofs.Rectangles.{half_and_rest, IsInner}
+use Rattle.plan_model.proofs.ActiveLaws.{even_if_cell}
+use Rattle.mesh_model.proofs.Ranges.{map_of_map}
 
 plus_zero : (n : ℕ) → n + 0 ≡ n
 plus_zero n = omega arith
@@ -208,12 +211,12 @@ even_is z e = half_and_rest z ∙ omega (arith, ints, e)
 odd_columns : (r : Region) → IsEven r → columns r ≡ 2 * half_columns r + 1
 unfolding columns half_columns
 odd_columns r is =
-    omega (arith, ints, even_is r.x0 is.corners.x0, even_is r.x1 is.corners.x1, is.some.across, gap_is r.x0 (r.x1 +ℤ pos 1), gap_is (floor_div r.x0 2) (floor_div r.x1 2))
+    omega (arith, ints, even_is r.x0 is.corners.x0, even_is r.x1 is.corners.x1, is.some.across, gap_by r.x0 (r.x1 +ℤ pos 1), gap_by (floor_div r.x0 2) (floor_div r.x1 2))
 
 odd_rows : (r : Region) → IsEven r → rows r ≡ 2 * half_rows r + 1
 unfolding rows half_rows
 odd_rows r is =
-    omega (arith, ints, even_is r.y0 is.corners.y0, even_is r.y1 is.corners.y1, is.some.along, gap_is r.y0 (r.y1 +ℤ pos 1), gap_is (floor_div r.y0 2) (floor_div r.y1 2))
+    omega (arith, ints, even_is r.y0 is.corners.y0, even_is r.y1 is.corners.y1, is.some.along, gap_by r.y0 (r.y1 +ℤ pos 1), gap_by (floor_div r.y0 2) (floor_div r.y1 2))
 
 -- the cells of two steps along a row of a side
 record IsSideRow (r : Region) (j : ℤ) : Type 0 where
@@ -243,7 +246,7 @@ row_vertex : (vertices : List Vertex) (terrain : Terrain) (level : ℕ) (r : Reg
 unfolding columns
 row_vertex vertices terrain level r j border row is v i low e =
     let wide = odd_columns r is in
-    let reach : (r.x0 +ℤ pos v) ≤ℤ r.x1 = omega (arith, ints, wide, low, gap_is r.x0 (r.x1 +ℤ pos 1)) in
+    let reach : (r.x0 +ℤ pos v) ≤ℤ r.x1 = omega (arith, ints, wide, low, gap_by r.x0 (r.x1 +ℤ pos 1)) in
     border.at (r.x0 +ℤ pos v) j (record { west = omega (arith, ints); east = reach; north = row.north; south = row.south }) (row_side r (r.x0 +ℤ pos v) j row.side)
     ∙ (λ t. border_vertex terrain level (e t) (row.even t))
 
@@ -252,7 +255,7 @@ column_vertex : (vertices : List Vertex) (terrain : Terrain) (level : ℕ) (r : 
 unfolding rows
 column_vertex vertices terrain level r i border column is v j low e =
     let long = odd_rows r is in
-    let reach : (r.y0 +ℤ pos v) ≤ℤ r.y1 = omega (arith, ints, long, low, gap_is r.y0 (r.y1 +ℤ pos 1)) in
+    let reach : (r.y0 +ℤ pos v) ≤ℤ r.y1 = omega (arith, ints, long, low, gap_by r.y0 (r.y1 +ℤ pos 1)) in
     border.at i (r.y0 +ℤ pos v) (record { west = column.west; east = column.east; north = omega (arith, ints); south = reach }) (column_side r i (r.y0 +ℤ pos v) column.side)
     ∙ (λ t. border_vertex terrain level (column.even t) (e t))
 

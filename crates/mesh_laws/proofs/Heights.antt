@@ -13,7 +13,7 @@ use Rattle.plan_model.specs.Window.{blend_width}
 use Rattle.terrain_model.specs.Terrain.{Terrain, IsTerrain, height_at, level_height}
 use Rattle.mesh_model.specs.Height.{border_distance, blend_share, blended_height, active_of, lower_end, upper_end, vertex_height}
 use Rattle.mesh_laws.specs.Conditions.{IsAtMost}
-use Rattle.mesh_laws.proofs.Rectangles.{Lies, lies}
+use Rattle.clip_regions.proofs.Cells.{Lies, lies}
 
 -- ---- heights of a terrain
 short : (x : ℤ) → FitsSigned w16 x → IsAtMost (2 ^ 15) x

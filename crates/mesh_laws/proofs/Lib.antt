@@ -1,6 +1,5 @@
 pub mod Lists
 pub mod Rectangles
-pub mod Cells
 pub mod Rows
 pub mod Listed
 pub mod Places

@@ -11,9 +11,12 @@ use Rattle.clip_regions.specs.Regions.{contains, empty_region, columns, rows, ar
 use Rattle.mesh_model.specs.Vertices.{hole, cells_outside}
 use Rattle.mesh_laws.specs.Rings.{passed_rows, listed_before}
 use Rattle.mesh_laws.proofs.Lists.{IsAt, at_left, at_right, at_range}
-use Rattle.mesh_laws.proofs.Rectangles.{Lies, lies, lying, HasCell, Within, IsInner, hole_within, hole_or_none}
-use Rattle.mesh_laws.proofs.Cells.{gap_is}
-use Rattle.mesh_laws.proofs.Rows.{map_of_map, flat_map_of_map, filter_of_flat_map, filter_keeps, filter_middle, before, at_row, HasShortRows, before_short}
+use Rattle.mesh_laws.proofs.Rectangles.{hole_or_none}
+use Rattle.clip_regions.proofs.Gaps.{gap_by}
+use Rattle.mesh_laws.proofs.Rows.{filter_of_flat_map, filter_keeps, filter_middle, before, at_row, HasShortRows, before_short}
+use Rattle.clip_regions.proofs.Cells.{Lies, lies, lying, HasCell, Within}
+use Rattle.mesh_model.proofs.Rectangles.{IsInner, hole_within}
+use Rattle.mesh_model.proofs.Ranges.{map_of_map, flat_map_of_map}
 
 -- the cell in column u and row v of a region, counted from its north-west corner
 unfoldable pub cell_in_row : Region → ℕ → ℕ → ℤ × ℤ
@@ -59,7 +62,7 @@ unfolding columns
 widths gap active h =
     let some = h.some in
     let w = h.within in
-    omega (arith, ints, some.across, w.west, w.east, gap_is active.x0 gap.x0, gap_is gap.x0 (gap.x1 +ℤ pos 1), gap_is gap.x1 active.x1, gap_is active.x0 (active.x1 +ℤ pos 1))
+    omega (arith, ints, some.across, w.west, w.east, gap_by active.x0 gap.x0, gap_by gap.x0 (gap.x1 +ℤ pos 1), gap_by gap.x1 active.x1, gap_by active.x0 (active.x1 +ℤ pos 1))
 
 whole_row : (gap active : Region) (v : ℕ) → HasGap gap active → (v < int_gap active.y0 gap.y0) ⊎ (int_gap active.y0 gap.y0 + rows gap ≤ v) →
     row_out gap active v ≡ map (cell_in_row active v) (range_with_len 0 (columns active))
@@ -70,11 +73,11 @@ whole_row gap active v h away =
     apart : (u : ℕ) → Lies gap (active.x0 +ℤ pos u) (active.y0 +ℤ pos v) → (v < int_gap active.y0 gap.y0) ⊎ (int_gap active.y0 gap.y0 + int_gap gap.y0 (gap.y1 +ℤ pos 1) ≤ v) → ⊥
     apart u l (inl above) =
         let w = h.within in
-        omega (arith, ints, above, l.north, w.north, gap_is active.y0 gap.y0)
+        omega (arith, ints, above, l.north, w.north, gap_by active.y0 gap.y0)
     apart u l (inr below) =
         let some = h.some in
         let w = h.within in
-        omega (arith, ints, below, l.south, w.north, some.along, gap_is active.y0 gap.y0, gap_is gap.y0 (gap.y1 +ℤ pos 1))
+        omega (arith, ints, below, l.south, w.north, some.along, gap_by active.y0 gap.y0, gap_by gap.y0 (gap.y1 +ℤ pos 1))
 
 short_row : (gap active : Region) (v : ℕ) → HasGap gap active → int_gap active.y0 gap.y0 ≤ v → v < int_gap active.y0 gap.y0 + rows gap →
     row_out gap active v ≡ map (cell_in_row active v) (range_with_len 0 (int_gap active.x0 gap.x0)) ++ map (cell_in_row active v) (range_with_len (int_gap active.x0 gap.x0 + columns gap) (int_gap gap.x1 active.x1))
@@ -88,23 +91,23 @@ short_row gap active v h low high =
     (λ u past _. is_out_when gap active v u (λ l. east u past l))
   where
     west : (u : ℕ) → u < int_gap active.x0 gap.x0 → Lies gap (active.x0 +ℤ pos u) (active.y0 +ℤ pos v) → ⊥
-    west u below l = let w = h.within in omega (arith, ints, below, l.west, w.west, gap_is active.x0 gap.x0)
+    west u below l = let w = h.within in omega (arith, ints, below, l.west, w.west, gap_by active.x0 gap.x0)
 
     east : (u : ℕ) → int_gap active.x0 gap.x0 + int_gap gap.x0 (gap.x1 +ℤ pos 1) ≤ u → Lies gap (active.x0 +ℤ pos u) (active.y0 +ℤ pos v) → ⊥
     east u past l =
         let w = h.within in
         let some = h.some in
-        omega (arith, ints, past, l.east, w.west, some.across, gap_is active.x0 gap.x0, gap_is gap.x0 (gap.x1 +ℤ pos 1))
+        omega (arith, ints, past, l.east, w.west, some.across, gap_by active.x0 gap.x0, gap_by gap.x0 (gap.x1 +ℤ pos 1))
 
     inside : (u : ℕ) → int_gap active.x0 gap.x0 ≤ u → u < int_gap active.x0 gap.x0 + int_gap gap.x0 (gap.x1 +ℤ pos 1) → Lies gap (active.x0 +ℤ pos u) (active.y0 +ℤ pos v)
     inside u from to =
         let w = h.within in
         let some = h.some in
         record {
-          west = omega (arith, ints, from, w.west, gap_is active.x0 gap.x0);
-          east = omega (arith, ints, to, w.west, some.across, gap_is active.x0 gap.x0, gap_is gap.x0 (gap.x1 +ℤ pos 1));
-          north = omega (arith, ints, low, w.north, gap_is active.y0 gap.y0);
-          south = omega (arith, ints, high, w.north, some.along, gap_is active.y0 gap.y0, gap_is gap.y0 (gap.y1 +ℤ pos 1));
+          west = omega (arith, ints, from, w.west, gap_by active.x0 gap.x0);
+          east = omega (arith, ints, to, w.west, some.across, gap_by active.x0 gap.x0, gap_by gap.x0 (gap.x1 +ℤ pos 1));
+          north = omega (arith, ints, low, w.north, gap_by active.y0 gap.y0);
+          south = omega (arith, ints, high, w.north, some.along, gap_by active.y0 gap.y0, gap_by gap.y0 (gap.y1 +ℤ pos 1));
         }
 
 short_rows : (gap active : Region) → HasGap gap active → HasShortRows (row_out gap active) (columns active) (int_gap active.y0 gap.y0) (rows gap) (columns gap)
@@ -134,7 +137,7 @@ place_past w v m b p u x before' here same e room =
 
 -- the column and row of a cell that lies in a region
 at_offset : (a i : ℤ) → a ≤ℤ i → a +ℤ pos (int_gap a i) ≡ i
-at_offset a i h = let g = gap_is a i in omega (arith, ints)
+at_offset a i h = let g = gap_by a i in omega (arith, ints)
 
 same_cell : (active : Region) (i j : ℤ) → Lies active i j → cell_in_row active (int_gap active.y0 j) (int_gap active.x0 i) ≡ (i, j)
 unfolding cell_in_row
@@ -160,10 +163,10 @@ passed_is gap active i j h l =
     let w = h.within in
     elim (cases_Bool (lt_z gap.x1 i)) [
       | inl e ↦ let east : gap.x1 <ℤ i = omega (arith, ints) in
-          let rows' : int_gap gap.y0 (j +ℤ pos 1) ≡ int_gap active.y0 j + 1 - int_gap active.y0 gap.y0 = omega (arith, ints, w.north, l.north, gap_is gap.y0 (j +ℤ pos 1), gap_is active.y0 j, gap_is active.y0 gap.y0) in
+          let rows' : int_gap gap.y0 (j +ℤ pos 1) ≡ int_gap active.y0 j + 1 - int_gap active.y0 gap.y0 = omega (arith, ints, w.north, l.north, gap_by gap.y0 (j +ℤ pos 1), gap_by active.y0 j, gap_by active.y0 gap.y0) in
           inr (past gap i j east ∙ ap (λ n. min n (rows gap)) rows', east)
       | inr e ↦ let west : i ≤ℤ gap.x1 = omega (arith, ints) in
-          let rows' : int_gap gap.y0 j ≡ int_gap active.y0 j - int_gap active.y0 gap.y0 = omega (arith, ints, w.north, l.north, gap_is gap.y0 j, gap_is active.y0 j, gap_is active.y0 gap.y0) in
+          let rows' : int_gap gap.y0 j ≡ int_gap active.y0 j - int_gap active.y0 gap.y0 = omega (arith, ints, w.north, l.north, gap_by gap.y0 j, gap_by active.y0 j, gap_by active.y0 gap.y0) in
           inl (not_past gap i j west ∙ ap (λ n. min n (rows gap)) rows', west)
     ]
 
@@ -175,7 +178,7 @@ unfolding columns
 in_whole_row gap active i j l e =
     let u = int_gap active.x0 i in
     let v = int_gap active.y0 j in
-    let low : u < int_gap active.x0 (active.x1 +ℤ pos 1) = omega (arith, ints, l.west, l.east, gap_is active.x0 i, gap_is active.x0 (active.x1 +ℤ pos 1)) in
+    let low : u < int_gap active.x0 (active.x1 +ℤ pos 1) = omega (arith, ints, l.west, l.east, gap_by active.x0 i, gap_by active.x0 (active.x1 +ℤ pos 1)) in
     let there : IsAt (map (cell_in_row active v) (range_with_len 0 (int_gap active.x0 (active.x1 +ℤ pos 1)))) u (i, j) =
     subst (λ (x : ℤ × ℤ). IsAt (map (cell_in_row active v) (range_with_len 0 (int_gap active.x0 (active.x1 +ℤ pos 1)))) u x) (same_cell active i j l) (at_range (cell_in_row active v) 0 (int_gap active.x0 (active.x1 +ℤ pos 1)) u u low (omega arith)) in
     subst (λ (xs : List (ℤ × ℤ)). IsAt xs u (i, j)) (sym e) there
@@ -210,7 +213,7 @@ in_short_row_east gap active i j h l low high east =
     subst (λ (xs : List (ℤ × ℤ)). IsAt xs (u - columns gap) (i, j)) (sym (short_row gap active v h low high)) (subst (λ (n : ℕ). IsAt (first ++ second) n (i, j)) place both)
   where
     reach : int_gap active.x0 i < columns active
-    reach = omega (arith, ints, l.west, l.east, gap_is active.x0 i, gap_is active.x0 (active.x1 +ℤ pos 1))
+    reach = omega (arith, ints, l.west, l.east, gap_by active.x0 i, gap_by active.x0 (active.x1 +ℤ pos 1))
 
 at_gap : (gap active : Region) (i j : ℤ) → HasGap gap active → Lies active i j → contains gap i j ≡ false →
     IsAt (flat_map (row_out gap active) (range_with_len 0 (rows active))) (listed_before gap active i j) (i, j)
@@ -239,7 +242,7 @@ at_gap gap active i j h l out = by_row (cases_lt v a) (cases_lt v (a + rows gap)
     stand = before_short row (columns active) a (rows gap) (columns gap) (short_rows gap active h) v
 
     deep : v < rows active
-    deep = omega (arith, ints, l.north, l.south, gap_is active.y0 j, gap_is active.y0 (active.y1 +ℤ pos 1))
+    deep = omega (arith, ints, l.north, l.south, gap_by active.y0 j, gap_by active.y0 (active.y1 +ℤ pos 1))
 
     by_place : (u' : ℕ) → IsAt (row v) u' (i, j) → place ≡ before row v + u' → goal' place
     by_place u' there e = subst goal' (sym e) (at_row row v (rows active) u' (i, j) deep there)
@@ -268,10 +271,10 @@ at_gap gap active i j h l out = by_row (cases_lt v a) (cases_lt v (a + rows gap)
           | inr inside ↦ let w = h.within in
               let some = h.some in
               let there : Lies gap i j = record {
-                west = omega (arith, ints, inside, l.west, w.west, gap_is active.x0 i, gap_is active.x0 gap.x0);
+                west = omega (arith, ints, inside, l.west, w.west, gap_by active.x0 i, gap_by active.x0 gap.x0);
                 east = reach;
-                north = omega (arith, ints, low, l.north, w.north, gap_is active.y0 j, gap_is active.y0 gap.y0);
-                south = omega (arith, ints, high, l.north, w.north, some.along, gap_is active.y0 j, gap_is active.y0 gap.y0, gap_is gap.y0 (gap.y1 +ℤ pos 1));
+                north = omega (arith, ints, low, l.north, w.north, gap_by active.y0 j, gap_by active.y0 gap.y0);
+                south = omega (arith, ints, high, l.north, w.north, some.along, gap_by active.y0 j, gap_by active.y0 gap.y0, gap_by gap.y0 (gap.y1 +ℤ pos 1));
               } in
               absurd (true≢false (sym (lying gap i j there) ∙ out))
         ]
@@ -280,7 +283,7 @@ at_gap gap active i j h l out = by_row (cases_lt v a) (cases_lt v (a + rows gap)
     east_of past' =
         let w = h.within in
         let some = h.some in
-        omega (arith, ints, past', l.west, w.west, some.across, gap_is active.x0 i, gap_is active.x0 gap.x0, gap_is gap.x0 (gap.x1 +ℤ pos 1))
+        omega (arith, ints, past', l.west, w.west, some.across, gap_by active.x0 i, gap_by active.x0 gap.x0, gap_by gap.x0 (gap.x1 +ℤ pos 1))
 
     short : a ≤ v → v < a + rows gap → Passed → goal' place
     short low high (inl p) = whole (in_short_row gap active i j h l low high (west_of low high p.1)) p.0
@@ -327,7 +330,7 @@ at_no_gap active i j l =
     let u = int_gap active.x0 i in
     let v = int_gap active.y0 j in
     let n = int_gap active.y0 (active.y1 +ℤ pos 1) in
-    let deep : v < n = omega (arith, ints, l.north, l.south, gap_is active.y0 j, gap_is active.y0 (active.y1 +ℤ pos 1)) in
+    let deep : v < n = omega (arith, ints, l.north, l.south, gap_by active.y0 j, gap_by active.y0 (active.y1 +ℤ pos 1)) in
     let stand = before_short (row_out empty_region active) (columns active) 0 0 0 (none_rows active) v in
     let nothing : columns empty_region * passed_rows empty_region i j ≡ 0 * passed_rows empty_region i j = ap (λ n'. n' * passed_rows empty_region i j) no_columns in
     let place : v * columns active + u - columns empty_region * passed_rows empty_region i j ≡ before (row_out empty_region active) v + u = omega (arith, stand, nothing) in
@@ -357,7 +360,7 @@ count_gap gap active h =
     reach =
         let w = h.within in
         let some = h.some in
-        omega (arith, ints, w.north, w.south, some.along, gap_is active.y0 gap.y0, gap_is gap.y0 (gap.y1 +ℤ pos 1), gap_is active.y0 (active.y1 +ℤ pos 1))
+        omega (arith, ints, w.north, w.south, some.along, gap_by active.y0 gap.y0, gap_by gap.y0 (gap.y1 +ℤ pos 1), gap_by active.y0 (active.y1 +ℤ pos 1))
 
 count_no_gap : (active : Region) → length (flat_map (row_out empty_region active) (range_with_len 0 (rows active))) ≡ area active - area empty_region
 unfolding before area

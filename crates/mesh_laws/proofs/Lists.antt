@@ -1,27 +1,9 @@
 -- What is true of all elements of lists that are put together from others, and where an element stands in them.
-use Rattle.std.proofs.Common.{◌≡◌, ℕ, ◌+◌, ◌<◌, List, [], ◌∷◌, ◌++◌, length, get_or, map, refl, ap, subst, ◌∙◌, length-append, arith}
+use Rattle.std.proofs.Common.{◌≡◌, ℕ, ◌+◌, ◌<◌, List, [], ◌∷◌, ◌++◌, length, get_or, map, refl, ap, ◌∙◌, length-append, arith}
 use Rattle.std.specs.List.{All, flat_map, range_with_len}
 use Rattle.std.proofs.lemmas.List.{get_or-map, get_or_append_left, get_or-append-add, length-map}
-use Rattle.std.proofs.lemmas.List.Elements.{All-nil, All-cons, All-head, All-tail}
+use Rattle.std.proofs.lemmas.List.Elements.{All-head, All-tail}
 use Rattle.std.proofs.lemmas.List.FromFn.{get_or-map-range_with_len, length-map-range_with_len}
-
-pub all_left : {A : Type 0} (P : A → Type 0) (xs ys : List A) → All P (xs ++ ys) → All P xs
-all_left P xs ys h k d low =
-    subst P (get_or_append_left xs ys d k low) (h k d (omega (arith, length-append xs ys)))
-
-pub all_right : {A : Type 0} (P : A → Type 0) (xs ys : List A) → All P (xs ++ ys) → All P ys
-all_right P xs ys h k d low =
-    subst P (get_or-append-add xs ys k d) (h (length xs + k) d (omega (arith, length-append xs ys)))
-
-pub all_of_map : {A B : Type 0} (P : B → Type 0) (f : A → B) (xs : List A) → All P (map f xs) → All (λ x. P (f x)) xs
-all_of_map P f xs h k d low =
-    subst P (get_or-map f xs k d (f d) low) (h k (f d) (omega (arith, length-map xs f)))
-
-pub all_of_flat_map : {A B : Type 0} (P : B → Type 0) (f : A → List B) (xs : List A) → All P (flat_map f xs) → All (λ x. All P (f x)) xs
-all_of_flat_map P f [] h = All-nil (λ x. All P (f x))
-all_of_flat_map P f (x ∷ xs) h =
-    All-cons (λ y. All P (f y)) x xs (all_left P (f x) (flat_map f xs) h)
-    (all_of_flat_map P f xs (all_right P (f x) (flat_map f xs) h))
 
 -- two functions that agree on a list give one list
 pub flat_map_same : {A B : Type 0} (f g : A → List B) (xs : List A) → All (λ x. f x ≡ g x) xs → flat_map f xs ≡ flat_map g xs

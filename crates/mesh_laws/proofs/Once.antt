@@ -1,10 +1,9 @@
 -- Each unit square of the coarsest active region lies in one ring square of one level.
-use Rattle.std.proofs.Common.{◌≡◌, ℕ, zero, suc, ◌+◌, ◌-◌, ◌*◌, ◌^◌, ◌<◌, ◌≤◌, Bool, true, false, cond, not, ◌&&◌, List, [], ◌∷◌, ◌++◌, ℤ, pos, negsuc, ◌+ℤ◌, ◌-ℤ◌, ◌*ℤ◌, ◌≤ℤ◌, ◌<ℤ◌, length, get_or, map, refl, ap, sym, ◌∙◌, inl, inr, ◌⊎◌, arith}
+use Rattle.std.proofs.Common.{◌≡◌, ℕ, zero, suc, ◌+◌, ◌-◌, ◌*◌, ◌^◌, ◌<◌, ◌≤◌, Bool, true, false, cond, not, ◌&&◌, List, [], ◌∷◌, ℤ, pos, negsuc, ◌+ℤ◌, ◌-ℤ◌, ◌*ℤ◌, ◌≤ℤ◌, ◌<ℤ◌, length, get_or, map, refl, ap, sym, ◌∙◌, inl, inr, ◌⊎◌, arith}
 use Rattle.std.specs.List.{count_by, filter, flat_map, range_with_len}
 use Rattle.std.specs.Int.{int_gap}
 use Rattle.std.proofs.lemmas.Int.{ints}
 use Rattle.std.proofs.lemmas.Bool.{cases_Bool, and_parts, and_from, true≢false}
-use Rattle.std.proofs.lemmas.List.Sums.{sum_by-append}
 use Rattle.std.proofs.Math.Nat.{mul-le-mul}
 use Rattle.std.proofs.Math.Pow.{pow-add, pow_mono}
 use lib.Signed.{lt_z, le_z}
@@ -16,19 +15,21 @@ use Rattle.mesh_model.specs.Vertices.{hole}
 use Rattle.mesh_model.specs.Parts.{squares_between}
 use Rattle.mesh_model.specs.Watertight.{lies_in, ring_squares, cover_count, covered, scaled, SquaresCover}
 use Rattle.mesh_model.specs.Height.{active_of}
-use Rattle.mesh_laws.proofs.Rectangles.{tested_lt, Within, IsInner, hole_within, hole_or_none, hole_of_empty, hole_is, HasCell, has_cell, even_if_cell, half_and_rest, empty_is_empty, no_hole}
+use Rattle.mesh_laws.proofs.Rectangles.{hole_or_none}
 use Rattle.mesh_laws.proofs.Places.{from_nothing}
-use Rattle.mesh_laws.proofs.Cells.{gap_is}
+use Rattle.clip_regions.proofs.Gaps.{gap_by}
 use Rattle.mesh_laws.proofs.Covered.{one_if, count_cons, one_and, between, square_is}
-use Rattle.mesh_laws.proofs.Reaches.{sum_times, twice_times, order_times, unit_times, quotient_and_rest, rem_below}
+use Rattle.mesh_laws.proofs.Reaches.{sum_times, twice_times, order_times, unit_times}
+use Rattle.clip_regions.proofs.Cells.{tested_lt, Within, HasCell, has_cell, empty_is_empty, same_test}
+use Rattle.mesh_model.proofs.Rectangles.{IsInner, hole_within, hole_of_empty, hole_is, half_and_rest, no_hole}
+use Rattle.plan_model.proofs.ActiveLaws.{even_if_cell}
+use Rattle.clip_regions.proofs.Quotients.{quotient_and_rest, rem_below}
+use Rattle.mesh_model.proofs.Tallies.{count_append}
 
 plus_zero : (n : ℕ) → n + 0 ≡ n
 plus_zero n = omega arith
 
 -- ---- counts over lists
-count_append : {X : Type 0} (p : X → Bool) (xs ys : List X) → count_by p (xs ++ ys) ≡ count_by p xs + count_by p ys
-count_append p xs ys = sum_by-append (λ y. cond (p y) 1 0) xs ys
-
 -- a second test that says the same of all that pass the first
 count_filter : {X : Type 0} (p t : X → Bool) (b : Bool) (xs : List X) → ((x : X) → p x ≡ true → t x ≡ b) → count_by p (filter t xs) ≡ one_if b * count_by p xs
 unfolding one_if
@@ -159,11 +160,6 @@ only_hit d x c i h e =
 unit_between : ℕ → ℤ → ℤ → ℤ → ℕ
 unit_between d a b x = one_if (le_z (a *ℤ pos d) x && lt_z x (b *ℤ pos d))
 
-same_test : (a b : Bool) → (a ≡ true → b ≡ true) → (b ≡ true → a ≡ true) → a ≡ b
-same_test true b f g = sym (f refl)
-same_test false true f g = g refl
-same_test false false f g = refl
-
 unit_is : (d : ℕ) (a b x c : ℤ) → IsHit d x c → between a b c ≡ unit_between d a b x
 unfolding between unit_between
 unit_is d a b x c h =
@@ -182,7 +178,7 @@ unit_in d r x z = unit_between d r.x0 r.x1 x * unit_between d r.y0 r.y1 z
 gap_lines : (a b c : ℤ) → between (a +ℤ pos 0) (a +ℤ pos (0 + int_gap a (b -ℤ pos 1 +ℤ pos 1))) c ≡ between a b c
 unfolding between one_if
 gap_lines a b c =
-    let wide = gap_is a (b -ℤ pos 1 +ℤ pos 1) in
+    let wide = gap_by a (b -ℤ pos 1 +ℤ pos 1) in
     let start : a +ℤ pos 0 ≡ a = omega (arith, ints) in
     elim (cases_Bool (le_z b a)) [
       | inl e ↦ let none : int_gap a (b -ℤ pos 1 +ℤ pos 1) ≡ 0 = omega (arith, ints, wide, e) in grind (arith, ints, none, e)

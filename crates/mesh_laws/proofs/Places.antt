@@ -14,8 +14,9 @@ use Rattle.mesh_model.specs.Laws.{VerticesApart, OwnPlaces}
 use Rattle.mesh_laws.specs.declared.ring.Ring.{Ring}
 use Rattle.mesh_laws.specs.Rings.{no_ring, ring_size, next_ring, listed_before, place_in}
 use Rattle.mesh_laws.proofs.Lists.{IsAt, at_left, at_right, at_map}
-use Rattle.mesh_laws.proofs.Rectangles.{Lies, IsInner, has_cell, empty_is_empty, none_in}
 use Rattle.mesh_laws.proofs.Listed.{cell_listed, count_listed}
+use Rattle.clip_regions.proofs.Cells.{Lies, has_cell, empty_is_empty}
+use Rattle.mesh_model.proofs.Rectangles.{IsInner, none_in}
 
 -- the vertex of each cell that a ring lists has its place
 pub record IsPlaced (vertices : List Vertex) (level : ℕ) (ring : Ring) : Type 0 where

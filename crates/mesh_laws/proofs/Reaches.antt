@@ -14,8 +14,9 @@ use Rattle.plan_model.specs.Sound.{IsInside, IsShown}
 use Rattle.mesh_model.specs.Height.{active_of}
 use Rattle.active_region.specs.Active.{AreActive}
 use Rattle.mesh_laws.specs.Conditions.{IsNear}
-use Rattle.mesh_laws.proofs.Rectangles.{lies}
 use Rattle.mesh_laws.proofs.Sizes.{half_at_most}
+use Rattle.clip_regions.proofs.Cells.{lies}
+use Rattle.clip_regions.proofs.Quotients.{rem_below, quotient_and_rest}
 
 -- ---- products
 pub sum_times : (a b : ℤ) (p : ℕ) → (a +ℤ b) *ℤ pos p ≡ a *ℤ pos p +ℤ b *ℤ pos p
@@ -52,16 +53,6 @@ center_in_samples q p =
     sum_times (pos 2 *ℤ q) (pos 1) p ∙ (λ t. twice_times q p t +ℤ unit_times p t)
 
 -- ---- centres
-pub rem_below : (a : ℤ) (d : ℕ) → 0 < d → floor_rem a d < d
-unfolding floor_rem
-rem_below (pos n) d h = omega arith
-rem_below (negsuc n) d h = omega arith
-
-pub quotient_and_rest : (a : ℤ) (d : ℕ) → 0 < d → a ≡ pos d *ℤ floor_div a d +ℤ pos (floor_rem a d)
-unfolding floor_div floor_rem
-quotient_and_rest (pos n) d h = omega (arith, ints)
-quotient_and_rest (negsuc n) d h = omega (arith, ints)
-
 -- a centre lies within one spacing of the viewer
 record IsCentered (z v : ℤ) (p : ℕ) : Type 0 where
   west : (v -ℤ pos p) ≤ℤ (z *ℤ pos p)

@@ -10,10 +10,11 @@ use Rattle.clip_regions.specs.Regions.{contains, columns, rows, numbers_from}
 use Rattle.mesh_model.specs.Vertices.{hole, cells_outside}
 use Rattle.mesh_laws.specs.Rings.{run, ring_row}
 use Rattle.mesh_laws.specs.Conditions.{IsCut, HasHole}
-use Rattle.mesh_laws.proofs.Rectangles.{Lies, lies, lying}
-use Rattle.mesh_laws.proofs.Cells.{gap_is}
-use Rattle.mesh_laws.proofs.Rows.{flat_map_of_map, filter_keeps, filter_middle}
+use Rattle.clip_regions.proofs.Gaps.{gap_by}
+use Rattle.mesh_laws.proofs.Rows.{filter_keeps, filter_middle}
 use Rattle.mesh_laws.proofs.Listed.{cell_in_row, is_out, row_out, cells_are_rows}
+use Rattle.clip_regions.proofs.Cells.{Lies, lies, lying}
+use Rattle.mesh_model.proofs.Ranges.{flat_map_of_map}
 
 pub rows_are : (finer active : Region) → cells_outside finer active ≡ flat_map (ring_row (hole finer) active) (numbers_from active.y0 (rows active))
 unfolding ring_row run row_out is_out cell_in_row
@@ -41,14 +42,14 @@ pub cut_run : (gap active : Region) (j : ℤ) → IsCut active gap → gap.y0 �
 unfolding ring_row run columns
 cut_run gap active j cut north south =
     filter_middle (λ cell. not (contains gap cell.0 cell.1)) cell a b c (int_gap active.x0 (active.x1 +ℤ pos 1)) (a + b) wide refl
-    (λ u below. not_at gap (active.x0 +ℤ pos u) j (λ l. omega (arith, ints, below, l.west, cw, gap_is active.x0 gap.x0)))
+    (λ u below. not_at gap (active.x0 +ℤ pos u) j (λ l. omega (arith, ints, below, l.west, cw, gap_by active.x0 gap.x0)))
     (λ u from to. ap not (lying gap (active.x0 +ℤ pos u) j (record {
-      west = omega (arith, ints, from, cw, gap_is active.x0 gap.x0);
-      east = omega (arith, ints, to, cw, ca, gap_is active.x0 gap.x0, gap_is gap.x0 (gap.x1 +ℤ pos 1));
+      west = omega (arith, ints, from, cw, gap_by active.x0 gap.x0);
+      east = omega (arith, ints, to, cw, ca, gap_by active.x0 gap.x0, gap_by gap.x0 (gap.x1 +ℤ pos 1));
       north = north;
       south = south;
     })))
-    (λ u past _. not_at gap (active.x0 +ℤ pos u) j (λ l. omega (arith, ints, past, l.east, cw, ca, gap_is active.x0 gap.x0, gap_is gap.x0 (gap.x1 +ℤ pos 1))))
+    (λ u past _. not_at gap (active.x0 +ℤ pos u) j (λ l. omega (arith, ints, past, l.east, cw, ca, gap_by active.x0 gap.x0, gap_by gap.x0 (gap.x1 +ℤ pos 1))))
     ∙ ap (λ rest. map cell (range_with_len 0 a) ++ rest) (shifted cell (λ u. ((gap.x1 +ℤ pos 1) +ℤ pos u, j)) (a + b) 0 c (λ x y u ex ey t. (moved x y u ex ey t, j)))
   where
     a : ℕ
@@ -70,10 +71,10 @@ cut_run gap active j cut north south =
     ca = cut.across
 
     wide : a + b + c ≡ int_gap active.x0 (active.x1 +ℤ pos 1)
-    wide = let ce = cut.east in omega (arith, ints, cw, ca, ce, gap_is active.x0 gap.x0, gap_is gap.x0 (gap.x1 +ℤ pos 1), gap_is gap.x1 active.x1, gap_is active.x0 (active.x1 +ℤ pos 1))
+    wide = let ce = cut.east in omega (arith, ints, cw, ca, ce, gap_by active.x0 gap.x0, gap_by gap.x0 (gap.x1 +ℤ pos 1), gap_by gap.x1 active.x1, gap_by active.x0 (active.x1 +ℤ pos 1))
 
     moved : (x y u : ℕ) → x ≡ a + b + u → y ≡ 0 + u → active.x0 +ℤ pos x ≡ (gap.x1 +ℤ pos 1) +ℤ pos y
-    moved x y u ex ey = omega (arith, ints, ex, ey, cw, ca, gap_is active.x0 gap.x0, gap_is gap.x0 (gap.x1 +ℤ pos 1))
+    moved x y u ex ey = omega (arith, ints, ex, ey, cw, ca, gap_by active.x0 gap.x0, gap_by gap.x0 (gap.x1 +ℤ pos 1))
 
 tested : (a b : ℤ) → le_z a b ≡ true → a ≤ℤ b
 tested a b e = omega (arith, ints)

@@ -13,9 +13,11 @@ use Rattle.active_region.specs.Active.{AreActive, AreDrawn}
 use Rattle.mesh_model.specs.Height.{border_distance, blend_share, blended_height, active_of, lower_end, upper_end, vertex_height}
 use Rattle.mesh_model.specs.Vertices.{hole}
 use Rattle.mesh_model.specs.Watertight.{HeightsAgree, is_on_border}
-use Rattle.mesh_laws.proofs.Rectangles.{Lies, lies, cell_in, half_and_rest, rem_below, into_hole, IsDeep, hole_deep}
+use Rattle.mesh_laws.proofs.Rectangles.{IsDeep, hole_deep}
 use Rattle.mesh_laws.proofs.Sizes.{inner_of}
 use Rattle.mesh_laws.proofs.Heights.{AreWeights, weights_of}
+use Rattle.clip_regions.proofs.Cells.{Lies, lies, cell_in}
+use Rattle.mesh_model.proofs.Rectangles.{half_and_rest, rem_below, into_hole}
 
 -- half of an even number, and of the one after it
 pub lower_of_twice : (i : ℤ) → lower_end (pos 2 *ℤ i) ≡ i

@@ -16,8 +16,10 @@ use Rattle.active_region.specs.Active.{AreActive}
 use Rattle.mesh_laws.specs.declared.ring.Ring.{Ring}
 use Rattle.mesh_laws.specs.Rings.{no_ring, next_ring, ring_size, finer_of}
 use Rattle.mesh_laws.specs.Conditions.{IsCell, IsCut, HasHole, IsSmall, IsRing, AreLinked, IsBefore}
-use Rattle.mesh_laws.proofs.Rectangles.{lying, has_cell, Within, IsInner, hole_within, hole_or_none, empty_is_empty, none_in}
-use Rattle.mesh_laws.proofs.Cells.{gap_is}
+use Rattle.mesh_laws.proofs.Rectangles.{hole_or_none}
+use Rattle.clip_regions.proofs.Gaps.{gap_by}
+use Rattle.clip_regions.proofs.Cells.{lying, has_cell, Within, empty_is_empty}
+use Rattle.mesh_model.proofs.Rectangles.{IsInner, hole_within, none_in}
 
 -- ---- the regions of a list, one by one
 even_at : (actives : List Region) (level : ℕ) (d : Region) → level < length actives → AllEvenOrEmpty actives → IsEvenOrEmpty (get_or actives level d)
@@ -60,7 +62,7 @@ half_at_most k size =
     omega arith
 
 narrow : (a b : ℤ) (h : ℕ) (c d : ℤ) → h ≤ 127 → (a -ℤ pos h) ≤ℤ c → d ≤ℤ (a +ℤ pos h) → int_gap c (d +ℤ pos 1) ≤ 255
-narrow a b h c d few low high = let g = gap_is c (d +ℤ pos 1) in omega (arith, ints)
+narrow a b h c d few low high = let g = gap_by c (d +ℤ pos 1) in omega (arith, ints)
 
 window_small : (k level : ℕ) (x y : ℤ) (r : Region) → IsSize k → IsInside (window k level x y) r → IsWithin (2 ^ 24) r → IsSmall r
 unfolding window columns rows
@@ -187,8 +189,8 @@ smaller_near active gap near cut =
 
 smaller : (a b c d : ℤ) → a ≤ℤ c → d ≤ℤ b → int_gap a (b +ℤ pos 1) ≤ 255 → int_gap c (d +ℤ pos 1) ≤ 255
 smaller a b c d low high few =
-    let g = gap_is a (b +ℤ pos 1) in
-    let h = gap_is c (d +ℤ pos 1) in
+    let g = gap_by a (b +ℤ pos 1) in
+    let h = gap_by c (d +ℤ pos 1) in
     omega (arith, ints, low, high, few, g, h)
 
 pub hole_small : (active gap : Region) → IsSmall active → HasHole active gap → IsSmall gap

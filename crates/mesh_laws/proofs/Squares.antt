@@ -1,9 +1,7 @@
 -- The triangles of a ring by places in closed form: each corner of its squares is a cell that it lists or lies on the border of its hole.
-use Rattle.std.proofs.Common.{◌≡◌, ℕ, ◌+◌, ◌*◌, ◌^◌, ◌≤◌, true, false, List, [], ◌∷◌, ◌++◌, ℤ, pos, ◌+ℤ◌, ◌-ℤ◌, ◌*ℤ◌, ◌≤ℤ◌, refl, ap, subst, ◌∙◌, inl, inr, arith}
+use Rattle.std.proofs.Common.{◌≡◌, ℕ, ◌+◌, ◌≤◌, true, false, List, [], ◌∷◌, ◌++◌, ℤ, pos, ◌+ℤ◌, ◌-ℤ◌, ◌*ℤ◌, ◌≤ℤ◌, refl, ap, subst, ◌∙◌, inl, inr, arith}
 use Rattle.std.proofs.lemmas.Int.{ints}
-use Rattle.std.proofs.lemmas.Nat.{pow-add}
 use Rattle.std.proofs.lemmas.Bool.{cases_Bool, false_from_ne_true}
-use borrow.Author.Differences.{up, down}
 use Rattle.clip_regions.specs.declared.region.Region.{Region}
 use Rattle.clip_regions.specs.Regions.{contains, is_empty, empty_region, cells}
 use Rattle.plan_model.specs.Laws.{IsEvenOrEmpty, AllEvenOrEmpty, AreNested}
@@ -17,19 +15,12 @@ use Rattle.mesh_model.specs.Laws.{VerticesApart, OwnPlaces}
 use Rattle.mesh_laws.specs.declared.ring.Ring.{Ring}
 use Rattle.mesh_laws.specs.Rings.{no_ring, next_ring, place_in, corner_of, ring_square, ring_triangles, ring_part, ring_parts, ring_parts_from}
 use Rattle.mesh_laws.proofs.Lists.{flat_map_same}
-use Rattle.mesh_laws.proofs.Rectangles.{Lies, lies, HasCell, has_cell, cell_in, Within, IsInner, hole_within, empty_is_empty, none_in, no_hole, from_hole, IsAmid, amid_hole}
-use Rattle.mesh_laws.proofs.Cells.{all_cells}
+use Rattle.mesh_laws.proofs.Rectangles.{IsAmid, amid_hole}
 use Rattle.mesh_laws.proofs.Places.{IsPlaced, ArePlaced, all_placed, from_nothing}
-
--- one step of a level is two of the next finer one
-coarser_step : (i : ℤ) (level : ℕ) → i *ℤ pos (2 ^ (level + 1)) ≡ (pos 2 *ℤ i) *ℤ pos (2 ^ level)
-coarser_step i level = ap (λ n. i *ℤ pos n) (pow-add 2 level 1) ∙ regroup i (2 ^ level)
-  where
-    regroup : (a : ℤ) (n : ℕ) → a *ℤ pos (n * 2) ≡ (pos 2 *ℤ a) *ℤ pos n
-    regroup a n =
-        let twice : up (pos 2 *ℤ a) + 2 * down a ≡ down (pos 2 *ℤ a) + 2 * up a = omega (arith, ints) in
-        let scaled : (up (pos 2 *ℤ a) + 2 * down a) * n ≡ (down (pos 2 *ℤ a) + 2 * up a) * n = ap (λ m. m * n) twice in
-        omega (arith, ints, scaled)
+use Rattle.clip_regions.proofs.Cells.{Lies, lies, HasCell, has_cell, cell_in, Within, empty_is_empty}
+use Rattle.mesh_model.proofs.Rectangles.{IsInner, hole_within, none_in, no_hole, from_hole}
+use Rattle.mesh_model.proofs.Cells.{all_cells}
+use Rattle.mesh_model.proofs.Listed.{coarser_step}
 
 finer_corner : (vertices : List Vertex) (level : ℕ) (i j : ℤ) → corner_place vertices (level + 1) i j ≡ corner_place vertices level (pos 2 *ℤ i) (pos 2 *ℤ j)
 unfolding corner_place

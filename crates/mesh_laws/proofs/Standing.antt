@@ -13,9 +13,9 @@ use Rattle.mesh_model.specs.Watertight.{vertex_of_place}
 use Rattle.mesh_model.specs.Laws.{OwnPlaces}
 use Rattle.mesh_laws.specs.Rings.{listed_before}
 use Rattle.mesh_laws.proofs.Lists.{IsAt, at_left, at_right, at_map}
-use Rattle.mesh_laws.proofs.Rectangles.{Lies}
 use Rattle.mesh_laws.proofs.Listed.{cell_listed}
 use Rattle.mesh_laws.proofs.Places.{from_nothing}
+use Rattle.clip_regions.proofs.Cells.{Lies}
 
 -- x stands somewhere in xs
 pub record Stands {A : Type 0} (xs : List A) (x : A) : Type 0 where

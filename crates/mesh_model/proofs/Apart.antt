@@ -20,9 +20,10 @@ use Rattle.mesh_model.specs.declared.shapes.Vertex.{Vertex}
 use Rattle.mesh_model.specs.Vertices.{LevelCell, hole, cells_outside, listed_from, listed_vertices, vertex_at, mesh_vertices, place_of}
 use Rattle.mesh_model.specs.Nested.{StandApart}
 use Rattle.mesh_model.proofs.Places.{hit}
-use Rattle.mesh_model.proofs.Rectangles.{Lies, lying, cell_in, Within, IsInner, hole_within, into_hole}
+use Rattle.mesh_model.proofs.Rectangles.{IsInner, hole_within, into_hole}
 use Rattle.mesh_model.proofs.Cells.{all_flat_map, all_kept, all_cells}
 use Rattle.mesh_model.proofs.Listed.{coarser_step}
+use Rattle.clip_regions.proofs.Cells.{Lies, lying, cell_in, Within}
 
 -- ---- pairs of a list
 pairs_nil : {A : Type 0} (R : A → A → Type 0) → AllPairs R []

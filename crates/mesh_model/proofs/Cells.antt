@@ -1,22 +1,16 @@
 -- What is true of all cells of a region, as a list and cell by cell.
-use Rattle.std.proofs.Common.{◌≡◌, ℕ, ◌+◌, ◌-◌, ◌<◌, Bool, true, cond, List, [], ◌∷◌, ℤ, pos, negsuc, ◌+ℤ◌, ◌≤ℤ◌, get_or, map, sym, subst, ◌∙◌, inl, inr, arith}
+use Rattle.std.proofs.Common.{◌≡◌, ℕ, ◌<◌, Bool, true, cond, List, [], ◌∷◌, ℤ, pos, ◌+ℤ◌, ◌≤ℤ◌, get_or, map, sym, subst, ◌∙◌, inl, inr, arith}
 use Rattle.std.specs.List.{All, flat_map, filter, range_with_len}
 use Rattle.std.specs.Int.{int_gap}
 use Rattle.std.proofs.lemmas.Int.{ints}
 use Rattle.std.proofs.lemmas.Bool.{cases_Bool, true≢false}
 use Rattle.std.proofs.lemmas.List.Elements.{All-nil, All-cons, All-head, All-tail, All-append, All-map}
 use Rattle.std.proofs.lemmas.List.FromFn.{length-range_with_len, get_or-range_with_len, length-map-range_with_len, get_or-map-range_with_len}
-use borrow.Author.Differences.{up, down}
 use Rattle.clip_regions.specs.declared.region.Region.{Region}
 use Rattle.clip_regions.specs.Regions.{columns, rows, cells, numbers_from}
+use Rattle.clip_regions.proofs.Gaps.{gap_by}
 use Rattle.mesh_model.proofs.Whole.{all_of_map, all_of_flat_map}
-use Rattle.mesh_model.proofs.Rectangles.{Lies}
-
-pub gap_is : (a b : ℤ) → int_gap a b ≡ (up b + down a) - (up a + down b)
-gap_is (pos a) (pos b) = omega arith
-gap_is (pos a) (negsuc b) = omega arith
-gap_is (negsuc a) (pos b) = omega arith
-gap_is (negsuc a) (negsuc b) = omega arith
+use Rattle.clip_regions.proofs.Cells.{Lies}
 
 -- ---- all of some lists
 pub all_flat_map : {A B : Type 0} (P : B → Type 0) (f : A → List B) (xs : List A) → All (λ x. All P (f x)) xs → All P (flat_map f xs)
@@ -64,12 +58,12 @@ all_between P a b h =
     all_numbers P a (int_gap a (b +ℤ pos 1)) (λ u low. h (a +ℤ pos u) (omega (arith, ints)) (reached u low))
   where
     reached : (u : ℕ) → u < int_gap a (b +ℤ pos 1) → (a +ℤ pos u) ≤ℤ b
-    reached u low = let gap = gap_is a (b +ℤ pos 1) in omega (arith, ints)
+    reached u low = let gap = gap_by a (b +ℤ pos 1) in omega (arith, ints)
 
 between_of_all : (P : ℤ → Type 0) (a b i : ℤ) → a ≤ℤ i → i ≤ℤ b → All P (numbers_from a (int_gap a (b +ℤ pos 1))) → P i
 between_of_all P a b i low high h =
-    let whole = gap_is a (b +ℤ pos 1) in
-    let part = gap_is a i in
+    let whole = gap_by a (b +ℤ pos 1) in
+    let part = gap_by a i in
     let below : int_gap a i < int_gap a (b +ℤ pos 1) = omega (arith, ints) in
     let at : a +ℤ pos (int_gap a i) ≡ i = omega (arith, ints) in
     subst P at (number_of_all P a (int_gap a (b +ℤ pos 1)) (int_gap a i) below h)

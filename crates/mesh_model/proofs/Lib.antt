@@ -10,3 +10,4 @@ pub mod Listed
 pub mod Named
 pub mod Tallies
 pub mod Apart
+pub mod Weights

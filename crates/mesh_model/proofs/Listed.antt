@@ -16,8 +16,9 @@ use Rattle.mesh_model.specs.Vertices.{LevelCell, hole, cells_outside, listed_fro
 use Rattle.mesh_model.specs.Parts.{corner_place}
 use Rattle.mesh_model.proofs.Whole.{all_left, all_right, all_of_map}
 use Rattle.mesh_model.proofs.Places.{hit}
-use Rattle.mesh_model.proofs.Rectangles.{Lies, lies, cell_in, none_in, empty_is_empty, no_hole, from_hole}
+use Rattle.mesh_model.proofs.Rectangles.{none_in, no_hole, from_hole}
 use Rattle.mesh_model.proofs.Cells.{all_passing, cell_of_all}
+use Rattle.clip_regions.proofs.Cells.{Lies, lies, cell_in, empty_is_empty}
 
 -- ---- the place of a vertex of a list
 -- a vertex stands at column x and row z

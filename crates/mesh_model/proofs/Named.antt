@@ -17,9 +17,10 @@ use Rattle.mesh_model.specs.Parts.{PartTriangles, corner_place, square_triangles
 use Rattle.mesh_model.specs.Mesh.{mesh, mesh_of_parts}
 use Rattle.mesh_model.specs.Conditions.{NameVertices}
 use Rattle.mesh_model.proofs.Counts.{all_three}
-use Rattle.mesh_model.proofs.Rectangles.{Lies, HasCell, has_cell, Within, IsInner, hole_within, empty_is_empty, none_in}
+use Rattle.mesh_model.proofs.Rectangles.{IsInner, hole_within, none_in}
 use Rattle.mesh_model.proofs.Cells.{all_flat_map, all_between, all_cells}
 use Rattle.mesh_model.proofs.Listed.{HasCorner, IsListed, AreListed, actives_listed}
+use Rattle.clip_regions.proofs.Cells.{Lies, HasCell, has_cell, Within, empty_is_empty}
 
 -- each place of a walk is below this count
 abbrev Below : ℕ → List ℕ → Type 0

@@ -1,77 +1,21 @@
 -- Which cells a region, its half and the hole that it leaves in the next coarser region have.
-use Rattle.std.proofs.Common.{◌≡◌, ℕ, ◌<◌, true, false, ◌&&◌, ℤ, pos, negsuc, ◌+ℤ◌, ◌-ℤ◌, ◌*ℤ◌, ◌≤ℤ◌, ◌<ℤ◌, refl, ap, sym, ◌∙◌, subst, inl, inr, arith}
+use Rattle.std.proofs.Common.{◌≡◌, ℕ, ◌<◌, true, false, ℤ, pos, negsuc, ◌+ℤ◌, ◌-ℤ◌, ◌*ℤ◌, ◌≤ℤ◌, ◌<ℤ◌, refl, ap, sym, ◌∙◌, subst, inl, inr, arith}
 use Rattle.std.proofs.lemmas.Int.{ints}
-use Rattle.std.proofs.lemmas.Bool.{and_parts, and_from, or_parts, or_from, cases_Bool, true≢false, false_from_ne_true}
-use lib.Signed.{lt_z, le_z}
+use Rattle.std.proofs.lemmas.Bool.{cases_Bool, true≢false, false_from_ne_true}
+use lib.Signed.{le_z}
 use Rattle.clip_regions.specs.declared.region.Region.{Region}
 use Rattle.clip_regions.specs.FloorDivision.{floor_div, floor_rem}
 use Rattle.clip_regions.specs.Regions.{contains, is_empty, empty_region, spelled, erode, halve, holds, HasEvenCorners}
 use Rattle.plan_model.specs.Laws.{IsEvenOrEmpty}
 use Rattle.mesh_model.specs.Vertices.{hole}
+use Rattle.clip_regions.proofs.Cells.{HasCell, has_cell, not_empty, empty_is_empty, spelled_other, lies, Lies, cell_in, Within, within, larger_has_cell, spelled_same}
+use Rattle.plan_model.proofs.ActiveLaws.{even_if_cell}
 
 -- ---- tests on signed numbers
-tested_le : (a b : ℤ) → le_z a b ≡ true → a ≤ℤ b
-tested_le a b e = omega (arith, ints)
-
-pub le_tested : (a b : ℤ) → a ≤ℤ b → le_z a b ≡ true
-le_tested a b h = grind (arith, ints)
-
 pub not_le_tested : (a b : ℤ) → b <ℤ a → le_z a b ≡ false
 not_le_tested a b h = grind (arith, ints)
 
-pub tested_lt : (a b : ℤ) → lt_z a b ≡ true → a <ℤ b
-tested_lt a b e = omega (arith, ints)
-
-not_lt_tested : (a b : ℤ) → b ≤ℤ a → lt_z a b ≡ false
-not_lt_tested a b h = grind (arith, ints)
-
-tested_not_lt : (a b : ℤ) → lt_z a b ≡ false → b ≤ℤ a
-tested_not_lt a b e = omega (arith, ints)
-
 -- ---- cells
--- the cell (i, j) lies in r
-pub record Lies (r : Region) (i j : ℤ) : Type 0 where
-  pub west : r.x0 ≤ℤ i
-  pub east : i ≤ℤ r.x1
-  pub north : r.y0 ≤ℤ j
-  pub south : j ≤ℤ r.y1
-
-pub lies : (r : Region) (i j : ℤ) → contains r i j ≡ true → Lies r i j
-unfolding contains
-lies r i j e =
-    let parts : ((le_z r.x0 i && le_z i r.x1) ≡ true) × ((le_z r.y0 j && le_z j r.y1) ≡ true) = and_parts (le_z r.x0 i && le_z i r.x1) (le_z r.y0 j && le_z j r.y1) e in
-    let across : (le_z r.x0 i ≡ true) × (le_z i r.x1 ≡ true) = and_parts (le_z r.x0 i) (le_z i r.x1) parts.0 in
-    let along : (le_z r.y0 j ≡ true) × (le_z j r.y1 ≡ true) = and_parts (le_z r.y0 j) (le_z j r.y1) parts.1 in
-    record { west = tested_le r.x0 i across.0; east = tested_le i r.x1 across.1; north = tested_le r.y0 j along.0; south = tested_le j r.y1 along.1 }
-
-pub lying : (r : Region) (i j : ℤ) → Lies r i j → contains r i j ≡ true
-unfolding contains
-lying r i j h =
-    and_from (le_z r.x0 i && le_z i r.x1) (le_z r.y0 j && le_z j r.y1) (and_from (le_z r.x0 i) (le_z i r.x1) (le_tested r.x0 i h.west) (le_tested i r.x1 h.east)) (and_from (le_z r.y0 j) (le_z j r.y1) (le_tested r.y0 j h.north) (le_tested j r.y1 h.south))
-
--- the corners are in order
-pub record HasCell (r : Region) : Type 0 where
-  pub across : r.x0 ≤ℤ r.x1
-  pub along : r.y0 ≤ℤ r.y1
-
-pub has_cell : (r : Region) → is_empty r ≡ false → HasCell r
-unfolding is_empty
-has_cell r e =
-    let parts : (lt_z r.x1 r.x0 ≡ false) × (lt_z r.y1 r.y0 ≡ false) = or_parts (lt_z r.x1 r.x0) (lt_z r.y1 r.y0) e in
-    record { across = tested_not_lt r.x1 r.x0 parts.0; along = tested_not_lt r.y1 r.y0 parts.1 }
-
-pub not_empty : (r : Region) → HasCell r → is_empty r ≡ false
-unfolding is_empty
-not_empty r h =
-    or_from (lt_z r.x1 r.x0) (lt_z r.y1 r.y0) (not_lt_tested r.x1 r.x0 h.across) (not_lt_tested r.y1 r.y0 h.along)
-
-pub cell_in : (r : Region) (i j : ℤ) → Lies r i j → HasCell r
-cell_in r i j h = record { across = omega (arith, ints); along = omega (arith, ints) }
-
-pub empty_is_empty : is_empty empty_region ≡ true
-unfolding is_empty
-empty_is_empty = refl
-
 -- an empty region has no cell
 pub none_in : (P : Type 0) (r : Region) → is_empty r ≡ true → HasCell r → P
 none_in P r e some = absurd (true≢false (sym e ∙ not_empty r some))
@@ -79,40 +23,8 @@ none_in P r e some = absurd (true≢false (sym e ∙ not_empty r some))
 pub none_there : (r : Region) (i j : ℤ) → is_empty r ≡ true → contains r i j ≡ false
 none_there r i j e = false_from_ne_true (contains r i j) (λ t. none_in ⊥ r e (cell_in r i j (lies r i j t)))
 
-spelled_empty : (r : Region) → is_empty r ≡ true → spelled r ≡ empty_region
-unfolding spelled
-spelled_empty r e = rw e refl
-
-spelled_other : (r : Region) → is_empty r ≡ false → spelled r ≡ r
-unfolding spelled
-spelled_other r e = rw e refl
-
--- a region whose spelling has a cell is spelled as it is
-spelled_same : (r : Region) → HasCell (spelled r) → spelled r ≡ r
-spelled_same r some =
-    elim (cases_Bool (is_empty r)) [
-      | inl e ↦ none_in (spelled r ≡ r) (spelled r) (ap is_empty (spelled_empty r e) ∙ empty_is_empty) some
-      | inr e ↦ spelled_other r e
-    ]
-
--- the corners of b lie within those of a
-pub record Within (a b : Region) : Type 0 where
-  pub west : a.x0 ≤ℤ b.x0
-  pub east : b.x1 ≤ℤ a.x1
-  pub north : a.y0 ≤ℤ b.y0
-  pub south : b.y1 ≤ℤ a.y1
-
-pub within : (a b : Region) → holds a b ≡ true → is_empty b ≡ false → Within a b
-unfolding holds
-within a b e some =
-    let tests : ((le_z a.x0 b.x0 && le_z b.x1 a.x1) && (le_z a.y0 b.y0 && le_z b.y1 a.y1)) ≡ true = rw some at e in
-    let parts : ((le_z a.x0 b.x0 && le_z b.x1 a.x1) ≡ true) × ((le_z a.y0 b.y0 && le_z b.y1 a.y1) ≡ true) = and_parts (le_z a.x0 b.x0 && le_z b.x1 a.x1) (le_z a.y0 b.y0 && le_z b.y1 a.y1) tests in
-    let across : (le_z a.x0 b.x0 ≡ true) × (le_z b.x1 a.x1 ≡ true) = and_parts (le_z a.x0 b.x0) (le_z b.x1 a.x1) parts.0 in
-    let along : (le_z a.y0 b.y0 ≡ true) × (le_z b.y1 a.y1 ≡ true) = and_parts (le_z a.y0 b.y0) (le_z b.y1 a.y1) parts.1 in
-    record { west = tested_le a.x0 b.x0 across.0; east = tested_le b.x1 a.x1 across.1; north = tested_le a.y0 b.y0 along.0; south = tested_le b.y1 a.y1 along.1 }
-
 -- ---- halves
-rem_below : (z : ℤ) → floor_rem z 2 < 2
+pub rem_below : (z : ℤ) → floor_rem z 2 < 2
 unfolding floor_rem
 rem_below (pos n) = omega arith
 rem_below (negsuc n) = omega arith
@@ -130,7 +42,7 @@ halve_is : (r : Region) → halve r ≡ spelled (halved r)
 unfolding halve
 halve_is r = refl
 
-half_order : (a b : ℤ) → a ≤ℤ b → floor_div a 2 ≤ℤ floor_div b 2
+pub half_order : (a b : ℤ) → a ≤ℤ b → floor_div a 2 ≤ℤ floor_div b 2
 half_order a b h =
     let ra : floor_rem a 2 < 2 = rem_below a in
     let rb : floor_rem b 2 < 2 = rem_below b in
@@ -161,11 +73,11 @@ twice_to a i h =
     omega (arith, ints)
 
 -- ---- the hole
-hole_of_empty : (finer : Region) → is_empty finer ≡ true → hole finer ≡ empty_region
+pub hole_of_empty : (finer : Region) → is_empty finer ≡ true → hole finer ≡ empty_region
 unfolding hole
 hole_of_empty finer e = rw e refl
 
-halved_has_cell : (r : Region) → HasCell r → HasCell (halved r)
+pub halved_has_cell : (r : Region) → HasCell r → HasCell (halved r)
 halved_has_cell r some = record { across = half_order r.x0 r.x1 some.across; along = half_order r.y0 r.y1 some.along }
 
 -- the hole of a region that has a cell is the region with each corner halved
@@ -179,16 +91,12 @@ pub no_hole : hole empty_region ≡ empty_region
 no_hole = hole_of_empty empty_region empty_is_empty
 
 -- an empty region leaves no hole
-hole_needs_cell : (finer : Region) → HasCell (hole finer) → HasCell finer
+pub hole_needs_cell : (finer : Region) → HasCell (hole finer) → HasCell finer
 hole_needs_cell finer some =
     elim (cases_Bool (is_empty finer)) [
       | inl e ↦ none_in (HasCell finer) (hole finer) (ap is_empty (hole_of_empty finer e) ∙ empty_is_empty) some
       | inr e ↦ has_cell finer e
     ]
-
-pub even_if_cell : (r : Region) → IsEvenOrEmpty r → HasCell r → HasEvenCorners r
-even_if_cell r (inl e) some = none_in (HasEvenCorners r) r e some
-even_if_cell r (inr even) some = even
 
 -- twice a cell of the hole is a cell of the finer region
 pub from_hole : (finer : Region) (i j : ℤ) → IsEvenOrEmpty finer → Lies (hole finer) i j → Lies finer (pos 2 *ℤ i) (pos 2 *ℤ j)
@@ -212,15 +120,12 @@ into_hole finer i j h =
     subst (λ (q : Region). Lies q i j) (sym (hole_is finer some)) half
 
 -- the region with each end moved inwards by e
-eroded : Region → ℕ → Region
+unfoldable pub eroded : Region → ℕ → Region
 eroded r e = record { x0 = r.x0 +ℤ pos e; y0 = r.y0 +ℤ pos e; x1 = r.x1 -ℤ pos e; y1 = r.y1 -ℤ pos e }
 
-erode_is : (r : Region) (e : ℕ) → erode r (pos e) ≡ spelled (eroded r e)
+pub erode_is : (r : Region) (e : ℕ) → erode r (pos e) ≡ spelled (eroded r e)
 unfolding erode eroded
 erode_is r e = refl
-
-larger_has_cell : (a b : Region) → Within a b → HasCell b → HasCell a
-larger_has_cell a b w some = record { across = omega (arith, ints); along = omega (arith, ints) }
 
 uneroded : (r b : Region) (e : ℕ) → Within (eroded r e) b → Within r b
 unfolding eroded
@@ -237,7 +142,7 @@ within_eroded a b e h some =
 abbrev pub IsInner : ℕ → Region → Region → Type 0
 IsInner e finer coarser = is_empty finer ≡ false → holds (erode coarser (pos e)) (halve finer) ≡ true
 
-half_of_some : (finer : Region) → HasCell finer → halve finer ≡ hole finer
+pub half_of_some : (finer : Region) → HasCell finer → halve finer ≡ hole finer
 unfolding hole
 half_of_some finer some = rw (not_empty finer some) refl
 

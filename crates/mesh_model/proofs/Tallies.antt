@@ -8,7 +8,6 @@ use Rattle.std.proofs.lemmas.List.{length-map, length-reverse}
 use Rattle.std.proofs.lemmas.List.Concat.{flat_map-append}
 use Rattle.std.proofs.lemmas.List.Sums.{sum_by-append, length-filter}
 use Rattle.std.proofs.lemmas.List.Filters.{length-filter_both}
-use Rattle.std.proofs.lemmas.List.FromFn.{length-map-range_with_len}
 use lib.Signed.{lt_z, le_z}
 use Rattle.clip_regions.specs.declared.region.Region.{Region}
 use Rattle.clip_regions.specs.FloorDivision.{floor_div, floor_rem}
@@ -22,24 +21,17 @@ use Rattle.mesh_model.specs.Vertices.{LevelCell, hole, cells_outside, listed_fro
 use Rattle.mesh_model.specs.Parts.{PartTriangles, corner_place, square_triangles, squares_between, square_part, square_parts, stitches_from, stitches_along, places_in_row, places_in_column, stitch_part, stitch_parts, square_parts_from, stitch_parts_from, all_stitch_parts, parts_of_regions}
 use Rattle.mesh_model.specs.Mesh.{mesh, mesh_of_parts}
 use Rattle.mesh_model.specs.Nested.{vertex_count, square_count, ring_count, border_count, stitch_count, all_stitch_count}
-use Rattle.mesh_model.proofs.Rectangles.{HasCell, has_cell, Within, IsInner, hole_within, half_and_rest, even_if_cell, none_there, le_tested, tested_lt, not_le_tested}
-use Rattle.mesh_model.proofs.Cells.{gap_is}
+use Rattle.mesh_model.proofs.Rectangles.{IsInner, hole_within, half_and_rest, none_there, not_le_tested}
+use Rattle.clip_regions.proofs.Gaps.{gap_by}
 use Rattle.mesh_model.proofs.Named.{from_nothing}
+use Rattle.clip_regions.proofs.Cells.{HasCell, has_cell, Within, le_tested, tested_lt}
+use Rattle.plan_model.proofs.ActiveLaws.{even_if_cell}
+use Rattle.clip_regions.proofs.Sizes.{no_area, length_numbers}
+use Rattle.plan_model.proofs.CoverLaws.{count_cons, one_and, one_if}
 
 -- ---- counts
--- 1 where the test passes, else 0
-abbrev one_if : Bool → ℕ
-one_if b = cond b 1 0
-
-count_cons : {X : Type 0} (p : X → Bool) (x : X) (xs : List X) → count_by p (x ∷ xs) ≡ one_if (p x) + count_by p xs
-count_cons p x xs = let parts = sum_by-append (λ y. cond (p y) 1 0) (x ∷ []) xs in omega (arith, parts)
-
-count_append : {X : Type 0} (p : X → Bool) (xs ys : List X) → count_by p (xs ++ ys) ≡ count_by p xs + count_by p ys
+pub count_append : {X : Type 0} (p : X → Bool) (xs ys : List X) → count_by p (xs ++ ys) ≡ count_by p xs + count_by p ys
 count_append p xs ys = sum_by-append (λ y. cond (p y) 1 0) xs ys
-
-one_and : (x y : Bool) → one_if (x && y) ≡ one_if x * one_if y
-one_and true y = omega arith
-one_and false y = omega arith
 
 -- a test of columns and one of rows, over a row of cells and over rows of cells
 both_pass : (ℤ → Bool) → (ℤ → Bool) → ℤ × ℤ → Bool
@@ -103,8 +95,8 @@ is_between g h i = le_z g i && le_z i h
 
 stretch : (a g h : ℤ) → a ≤ℤ g → g ≤ℤ h → IsStretch (λ u. is_between g h (a +ℤ pos u)) (int_gap a g) (int_gap a (h +ℤ pos 1))
 stretch a g h low order =
-    let west = gap_is a g in
-    let east = gap_is a (h +ℤ pos 1) in
+    let west = gap_by a g in
+    let east = gap_by a (h +ℤ pos 1) in
     record {
       before = λ u below. and_left (le_z g (a +ℤ pos u)) (le_z (a +ℤ pos u) h) (not_le_tested g (a +ℤ pos u) (omega (arith, ints, west)));
       inside = λ u from to. and_from (le_z g (a +ℤ pos u)) (le_z (a +ℤ pos u) h) (le_tested g (a +ℤ pos u) (omega (arith, ints, west))) (le_tested (a +ℤ pos u) h (omega (arith, ints, east)));
@@ -113,10 +105,10 @@ stretch a g h low order =
 
 count_between : (a b g h : ℤ) → a ≤ℤ g → g ≤ℤ h → h ≤ℤ b → count_by (is_between g h) (numbers_from a (int_gap a (b +ℤ pos 1))) ≡ int_gap g (h +ℤ pos 1)
 count_between a b g h low order high =
-    let west = gap_is a g in
-    let east = gap_is a (h +ℤ pos 1) in
-    let whole = gap_is a (b +ℤ pos 1) in
-    let inner = gap_is g (h +ℤ pos 1) in
+    let west = gap_by a g in
+    let east = gap_by a (h +ℤ pos 1) in
+    let whole = gap_by a (b +ℤ pos 1) in
+    let inner = gap_by g (h +ℤ pos 1) in
     let count = count_stretch (is_between g h) (λ u. a +ℤ pos u) (int_gap a g) (int_gap a (h +ℤ pos 1)) 0 (int_gap a (b +ℤ pos 1)) (stretch a g h low order) (omega arith) (omega (arith, ints)) (omega (arith, ints)) in
     omega (arith, ints, count)
 
@@ -140,9 +132,6 @@ length_rows is (j ∷ js) =
     let rest = length_rows is js in
     omega (arith, parts, row, rest)
 
-length_numbers : (a : ℤ) (n : ℕ) → length (numbers_from a n) ≡ n
-length_numbers a n = length-map-range_with_len (λ i. a +ℤ pos i) 0 n
-
 length_cells : (r : Region) → length (cells r) ≡ area r
 unfolding area
 length_cells r =
@@ -151,7 +140,7 @@ length_cells r =
 
 -- ---- a region without cells
 no_gap : (a b : ℤ) → b <ℤ a → int_gap a (b +ℤ pos 1) ≡ 0
-no_gap a b h = let gap = gap_is a (b +ℤ pos 1) in omega (arith, ints)
+no_gap a b h = let gap = gap_by a (b +ℤ pos 1) in omega (arith, ints)
 
 empty_counts : (r : Region) → is_empty r ≡ true → (columns r ≡ 0) ⊎ (rows r ≡ 0)
 unfolding is_empty columns rows
@@ -159,14 +148,6 @@ empty_counts r e =
     elim (or_cases (lt_z r.x1 r.x0) (lt_z r.y1 r.y0) e) [
       | inl h ↦ inl (no_gap r.x0 r.x1 (tested_lt r.x1 r.x0 h))
       | inr h ↦ inr (no_gap r.y0 r.y1 (tested_lt r.y1 r.y0 h))
-    ]
-
-no_area : (r : Region) → is_empty r ≡ true → area r ≡ 0
-unfolding area
-no_area r e =
-    elim (empty_counts r e) [
-      | inl h ↦ let product : columns r * rows r ≡ 0 * rows r = ap (λ n. n * rows r) h in omega (arith, product)
-      | inr h ↦ let product : columns r * rows r ≡ columns r * 0 = ap (λ n. columns r * n) h in omega (arith, product)
     ]
 
 no_squares : (r : Region) → is_empty r ≡ true → square_count r ≡ 0
@@ -253,7 +234,7 @@ part_more : (part : PartTriangles) (parts : List PartTriangles) → triangles_in
 part_more part parts = length-append part.triangles (flat_map (λ p. p.triangles) parts)
 
 split_gap : (a g h b : ℤ) → a ≤ℤ g → g ≤ℤ h → h ≤ℤ b → int_gap a g + int_gap g h + int_gap h b ≡ int_gap a b
-split_gap a g h b low order high = omega (arith, ints, gap_is a g, gap_is g h, gap_is h b, gap_is a b)
+split_gap a g h b low order high = omega (arith, ints, gap_by a g, gap_by g h, gap_by h b, gap_by a b)
 
 -- the squares between the ends of a region
 squares_are : (r : Region) → square_count r ≡ int_gap r.x0 r.x1 * int_gap r.y0 r.y1
@@ -261,7 +242,7 @@ unfolding square_count columns rows
 squares_are r = λ t. sym (one_less r.x0 r.x1) t * sym (one_less r.y0 r.y1) t
   where
     one_less : (a b : ℤ) → int_gap a b ≡ int_gap a (b +ℤ pos 1) - 1
-    one_less a b = omega (arith, ints, gap_is a b, gap_is a (b +ℤ pos 1))
+    one_less a b = omega (arith, ints, gap_by a b, gap_by a (b +ℤ pos 1))
 
 ring_length : (vertices : List Vertex) (level : ℕ) (gap active : Region) → HasCell gap → Within active gap →
     triangles_in
@@ -343,7 +324,7 @@ odd_gap : (a b : ℤ) → floor_rem a 2 ≡ 0 → floor_rem b 2 ≡ 0 → a ≤�
 odd_gap a b even_a even_b h =
     let wa : a ≡ pos 2 *ℤ floor_div a 2 +ℤ pos (floor_rem a 2) = half_and_rest a in
     let wb : b ≡ pos 2 *ℤ floor_div b 2 +ℤ pos (floor_rem b 2) = half_and_rest b in
-    let gap = gap_is a (b +ℤ pos 1) in
+    let gap = gap_by a (b +ℤ pos 1) in
     omega (arith, ints)
 
 -- a side of an odd number of cells has half of them, rounded down, as stitches

@@ -7,7 +7,7 @@ use Rattle.clip_regions.specs.declared.region.Region.{Region}
 use Rattle.clip_regions.specs.Regions.{columns, rows}
 use Rattle.mesh_plain_heights.specs.Placed.{IsPlacedAt, ArePlaced, IsSquarePlaced}
 use Rattle.mesh_plain.specs.Cells.{cell_in}
-use Rattle.mesh_plain.proofs.Gaps.{gap_holds}
+use Rattle.clip_regions.proofs.Gaps.{gap_holds}
 
 pub scaled : (a b : ℤ) (s : ℕ) → a ≤ℤ b → (a *ℤ pos s) ≤ℤ (b *ℤ pos s)
 scaled (pos a) (pos b) s h =

@@ -9,8 +9,8 @@ use Rattle.clip_regions.specs.Regions.{is_empty, columns, rows, cells, numbers_f
 use Rattle.mesh_model.specs.Parts.{squares_between}
 use Rattle.mesh_plain.specs.Blocks.{HasPlacedCorners}
 use Rattle.mesh_plain_heights.specs.Placed.{IsPlacedAt, ArePlaced}
-use Rattle.mesh_plain.proofs.Gaps.{gap_none}
-use Rattle.mesh_plain.proofs.Grids.{grid}
+use Rattle.clip_regions.proofs.Gaps.{gap_none}
+use Rattle.mesh_model.proofs.Ranges.{grid}
 
 pub corners_within : (level : ℕ) (r : Region) → HasPlacedCorners level r → IsWithin (2 ^ 24) r
 corners_within level r h = record {

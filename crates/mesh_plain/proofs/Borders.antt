@@ -13,8 +13,8 @@ use Rattle.mesh_plain.specs.Blocks.{HasPlacedCorners}
 use Rattle.mesh_plain_heights.specs.Placed.{IsPlacedAt}
 use Rattle.mesh_plain.proofs.Between.{placed_between}
 use Rattle.mesh_plain.proofs.Blocks.{ordered}
-use Rattle.mesh_plain.proofs.Gaps.{gap_holds}
-use Rattle.mesh_plain.proofs.Grids.{map_of_map}
+use Rattle.clip_regions.proofs.Gaps.{gap_holds}
+use Rattle.mesh_model.proofs.Ranges.{map_of_map}
 
 pub column_placed : (level : ℕ) (r : Region) (u : ℕ) → HasPlacedCorners level r → u < columns r → IsPlacedAt level (r.x0 +ℤ pos u)
 unfolding columns

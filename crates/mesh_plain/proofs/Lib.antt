@@ -1,4 +1,3 @@
-pub mod Gaps
 pub mod Grids
 pub mod Between
 pub mod Walks

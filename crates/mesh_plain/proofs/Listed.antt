@@ -6,10 +6,10 @@ use Rattle.clip_regions.specs.declared.region.Region.{Region}
 use Rattle.clip_regions.specs.Regions.{contains, cells}
 use Rattle.mesh_model.specs.Vertices.{LevelCell, hole, cells_outside, listed_from}
 use Rattle.std.proofs.lemmas.List.{map-append}
-use Rattle.mesh_plain.proofs.Grids.{map_of_map}
 use Rattle.mesh_plain_heights.specs.declared.places.Cell.{Cell}
 use Rattle.mesh_plain.specs.Cells.{named}
 use Rattle.mesh_plain.specs.Rings.{is_outside, level_cell}
+use Rattle.mesh_model.proofs.Ranges.{map_of_map}
 
 -- where the test holds, the element stays, and elsewhere it is left out
 pub kept : {A : Type 0} (p : A → Bool) (xs : List A) (i : ℕ) (d : A) → i < length xs → p (get_or xs i d) ≡ true → filter p (drop i xs) ≡ get_or xs i d ∷ filter p (drop (i + 1) xs)

@@ -13,8 +13,8 @@ use Rattle.mesh_plain_heights.specs.Placed.{IsPlacedAt}
 use Rattle.mesh_plain.specs.Rings.{IsActive, level_cell}
 use Rattle.mesh_plain.specs.Frames.{IsDrawn, AreDrawn}
 use Rattle.mesh_plain_heights.specs.Drawn.{IsDrawnCell}
-use Rattle.mesh_plain.proofs.Gaps.{gap_holds}
 use Rattle.mesh_plain.proofs.Between.{placed_between}
+use Rattle.clip_regions.proofs.Gaps.{gap_holds}
 
 all_pieces : {A B : Type 0} (P : B → Type 0) (f : A → List B) (xs : List A) → All (λ x. All P (f x)) xs → All P (flat_map f xs)
 all_pieces P f [] h = All-nil P

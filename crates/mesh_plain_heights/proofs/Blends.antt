@@ -17,14 +17,6 @@ difference_is a b a_low a_high b_low b_high = omega (arith, ints)
 pub half_is : {a r : ℤ} → r ≡ floor_div a 2 → (x : ℤ) → a ≡ x → r ≡ floor_div x 2
 half_is e x same = e ∙ ap (λ (z : ℤ). floor_div z 2) same
 
-pub distance_is : (r : Region) (i j d : ℤ) → d ≡ int_min (int_min (i -ℤ r.x0) (r.x1 -ℤ i)) (int_min (j -ℤ r.y0) (r.y1 -ℤ j)) → d ≡ border_distance r i j
-unfolding border_distance
-distance_is r i j d e = e
-
-pub share_is : (k : ℕ) (coarsest : Bool) (r : Region) (i j s : ℤ) → coarsest ≡ false → s ≡ int_max (pos 0) (pos (blend_width k) -ℤ border_distance r i j) → s ≡ blend_share k coarsest r i j
-unfolding blend_share
-share_is k coarsest r i j s e same = rw e same
-
 chosen : (P : ℤ → Type 0) (t : Bool) (a b : ℤ) → P a → P b → P (if t then b else a)
 chosen P true a b left right = right
 chosen P false a b left right = left

@@ -1,27 +1,13 @@
 -- The filled regions of the tests: whole windows of a viewer at (1, 1), and nothing.
-use Rattle.std.proofs.Common.{◌≡◌, ℕ, zero, suc, pos, negsuc, [], ◌∷◌, refl, subst, sym, inl, inr, arith}
+use Rattle.std.proofs.Common.{◌≡◌, ℕ, zero, suc, pos, [], ◌∷◌, refl, subst, sym, inl, inr, arith}
 use Rattle.std.proofs.lemmas.Int.{ints}
 use Rattle.clip_regions.specs.declared.region.Region.{Region}
-use Rattle.clip_regions.specs.FloorDivision.{floor_div, floor_rem}
+use Rattle.clip_regions.specs.FloorDivision.{floor_rem}
 use Rattle.clip_regions.specs.Regions.{HasEvenCorners, empty_region, is_empty}
-use Rattle.plan_model.specs.Limits.{IsViewed}
-use Rattle.plan_model.specs.Window.{window, center, half_width}
+use Rattle.plan_model.specs.Window.{window}
 use Rattle.plan_model.specs.Sound.{IsInside, IsPartOf, IsShown}
 use Rattle.active_region.specs.Active.{AreFilled}
-
-abbrev round : Region
-round = record { x0 = negsuc 5; y0 = negsuc 5; x1 = pos 8; y1 = pos 8 }
-
-window_finest : window 4 0 (pos 1) (pos 1) ≡ round
-unfolding window center half_width floor_div
-window_finest = refl
-
-window_next : window 4 1 (pos 1) (pos 1) ≡ round
-unfolding window center half_width floor_div
-window_next = refl
-
-viewed : IsViewed (pos 1)
-viewed = record { low = omega (arith, ints); high = omega (arith, ints) }
+use Rattle.active_region.proofs.Samples.{round, window_finest, window_next, viewed}
 
 inside : IsInside round round
 inside = record { west = omega (arith, ints); columns = omega (arith, ints); east = omega (arith, ints); north = omega (arith, ints); rows = omega (arith, ints); south = omega (arith, ints) }

@@ -29,6 +29,8 @@ use Rattle.plan_flights.proofs.Parts.{IsSomeSound, sound_after}
 use Rattle.plan_flights.proofs.Views.{SameView, ripe_same}
 use Rattle.plan_flights.proofs.Ripe.{part_at, fresh_not_ripe}
 use Rattle.plan_flights.proofs.Still.{IsUnframed, round_rests, unframed_at_rest, not_there}
+use Rattle.clip_regions.proofs.Cells.{same_corners}
+use Rattle.plan_histories.proofs.PassLaws.{no_work, all_free}
 
 -- ---- a level that stays where the viewer moves
 same_flag : (a b : Bool) → beq a b ≡ true → a ≡ b
@@ -36,13 +38,6 @@ same_flag true true e = refl
 same_flag true false e = absurd (true≢false (sym e))
 same_flag false true e = absurd (true≢false (sym e))
 same_flag false false e = refl
-
-abbrev corners : ℤ → ℤ → ℤ → ℤ → Region
-corners west north east south = record { x0 = west; y0 = north; x1 = east; y1 = south }
-
-same_corners : (r s : Region) → r.x0 ≡ s.x0 → r.y0 ≡ s.y0 → r.x1 ≡ s.x1 → r.y1 ≡ s.y1 → r ≡ s
-same_corners r s a b c d =
-    ap (λ (v : ℤ). corners v r.y0 r.x1 r.y1) a ∙ ap (λ (v : ℤ). corners s.x0 v r.x1 r.y1) b ∙ ap (λ (v : ℤ). corners s.x0 s.y0 v r.y1) c ∙ ap (λ (v : ℤ). corners s.x0 s.y0 s.x1 v) d
 
 inside_both : (a b : Region) → IsInside a b → IsInside b a → a ≡ b
 inside_both a b h k = same_corners a b (omega (arith, ints)) (omega (arith, ints)) (omega (arith, ints)) (omega (arith, ints))
@@ -142,14 +137,6 @@ all_empty : (n level : ℕ) → get_or (replicate n empty_level) level empty_lev
 all_empty zero level = refl
 all_empty (suc n) zero = refl
 all_empty (suc n) (suc level) = all_empty n level
-
-no_work : Pass
-no_work = Free
-
-all_free : (n p : ℕ) → get_or (replicate n no_work) p no_work ≡ no_work
-all_free zero p = refl
-all_free (suc n) zero = refl
-all_free (suc n) (suc p) = all_free n p
 
 start_level : (k levels level : ℕ) → level_at (start_state k levels) level ≡ empty_level
 unfolding start_state

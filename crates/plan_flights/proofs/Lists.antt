@@ -2,20 +2,13 @@
 use Rattle.std.proofs.Common.{◌≡◌, ℕ, zero, suc, ◌+◌, ◌-◌, ◌<◌, ◌≤◌, Bool, true, false, List, [], ◌∷◌, ◌++◌, map, reverse, length, get_or, Some, None, refl, ap, sym, ◌∙◌, subst, inl, inr, arith, zero-add}
 use Rattle.std.proofs.lemmas.Bool.{cases_Bool, cases_eq}
 use Rattle.std.proofs.lemmas.List.{length-reverse, get_or-reverse}
-use Rattle.std.proofs.lemmas.List.Elements.{All-nil, All-cons, All-head, All-tail, All-append}
+use Rattle.std.proofs.lemmas.List.Elements.{All-nil, All-cons, All-head}
 use Rattle.std.proofs.lemmas.List.FromFn.{length-range_with_len, get_or-range_with_len}
 use Rattle.std.proofs.lemmas.List.Sums.{sum_by-append}
 use Rattle.std.specs.List.{All, filter, flat_map, sum_by, range_with_len}
 use Rattle.plan_model.specs.Strips.{first_of}
 
 -- ---- ranges
-pub All-range : (P : ℕ → Type 0) (s n : ℕ) → ((i : ℕ) → s ≤ i → i < s + n → P i) → All P (range_with_len s n)
-All-range P s n each k d h =
-    let count : length (range_with_len s n) ≡ n = length-range_with_len s n in
-    let inside : k < n = omega arith in
-    let at : get_or (range_with_len s n) k d ≡ s + k = get_or-range_with_len s n k d inside in
-    subst P (sym at) (each (s + k) (omega arith) (omega arith))
-
 pub All-reverse : {X : Type 0} (P : X → Type 0) (xs : List X) → All P xs → All P (reverse xs)
 All-reverse P xs h k d inside =
     let count : length (reverse xs) ≡ length xs = length-reverse xs in
@@ -36,11 +29,6 @@ in_reverse P s n i low high all =
     subst P (turned ∙ ap (λ (j : ℕ). get_or (range_with_len s n) j 0) back ∙ value ∙ same) (all (s + n - 1 - i) 0 (omega arith))
 
 -- ---- each element
-pub All-flat_map : {X Y : Type 0} (P : Y → Type 0) (f : X → List Y) (xs : List X) → All (λ x. All P (f x)) xs → All P (flat_map f xs)
-All-flat_map P f [] h = All-nil P
-All-flat_map P f (x ∷ xs) h =
-    All-append P (f x) (flat_map f xs) (All-head (λ y. All P (f y)) x xs h) (All-flat_map P f xs (All-tail (λ y. All P (f y)) x xs h))
-
 pub first_none : {X : Type 0} (xs : List X) → first_of xs ≡ None → xs ≡ []
 first_none [] e = refl
 first_none (x ∷ xs) e = absurd (cc)

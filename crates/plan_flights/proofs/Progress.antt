@@ -19,9 +19,10 @@ use Rattle.plan_model.specs.declared.tiles.TileId.{TileId}
 use Rattle.plan_model.specs.declared.events.Work.TheVariants.{Free}
 use Rattle.plan_flights.specs.Flights.{IsAtRest}
 use Rattle.plan_flights.specs.Below.{LawsBelow}
-use Rattle.plan_flights.proofs.Lists.{All-range, All-reverse, in_reverse, All-flat_map, first_none, each_empty, map_empty}
+use Rattle.plan_flights.proofs.Lists.{All-reverse, in_reverse, first_none, each_empty, map_empty}
 use Rattle.plan_flights.proofs.Parts.{IsSomeSound, none_of}
 use Rattle.plan_flights.proofs.Ripe.{strip_is, part_at}
+use Rattle.plan_laws.proofs.Lists.{All-range, All-flat_map}
 
 -- ---- nothing is held or pinned
 none_pass : {X : Type 0} (test : X → Bool) (xs : List X) → ((x : X) → test x ≡ false) → filter test xs ≡ []

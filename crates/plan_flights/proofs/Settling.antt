@@ -16,7 +16,7 @@ use Rattle.plan_model.specs.declared.events.Event.TheVariants.{Claim, Finish}
 use Rattle.plan_model.specs.declared.events.Work.TheVariants.{Free, Fills}
 use Rattle.plan_flights.specs.Flights.{IsAtRest, SettlesEnd}
 use Rattle.plan_flights.specs.Below.{LawsBelow}
-use Rattle.plan_flights.proofs.Lists.{All-range, first_is}
+use Rattle.plan_flights.proofs.Lists.{first_is}
 use Rattle.plan_flights.proofs.Parts.{IsSomeSound}
 use Rattle.plan_flights.proofs.Views.{SameView, view_then, finest_same, strip_same, view_claim}
 use Rattle.plan_flights.proofs.Left.{left, total, total_at_most, left_same}
@@ -24,6 +24,7 @@ use Rattle.plan_flights.proofs.Falls.{Less, total_less, claim_levels, AnyPass, s
 use Rattle.plan_flights.proofs.Phases.{claims_keep, by_finishes, by_end}
 use Rattle.plan_flights.proofs.Still.{round_rests, unframed_at_rest}
 use Rattle.plan_flights.proofs.Progress.{IsGood, offers_good, some_offer}
+use Rattle.plan_laws.proofs.Lists.{All-range}
 
 -- ---- the first claim of a round
 claim_is : (st : State) (p : ℕ) (o : Offer) → pass_at st p ≡ Free → first_of (offers st) ≡ Some o → claim_step st p ≡ claimed st p (Some o)

@@ -13,12 +13,13 @@ use Rattle.plan_model.specs.declared.events.Event.TheVariants.{Claim, Finish, Pu
 use Rattle.plan_model.specs.declared.events.Work.TheVariants.{Free}
 use Rattle.plan_flights.specs.Flights.{IsAtRest}
 use Rattle.plan_flights.specs.Below.{LawsBelow}
-use Rattle.plan_flights.proofs.Lists.{All-range, in_reverse}
+use Rattle.plan_flights.proofs.Lists.{in_reverse}
 use Rattle.plan_flights.proofs.Parts.{IsSomeSound, free_if, none_of, claim_frame, finish_free, end_free}
 use Rattle.plan_flights.proofs.Views.{ripe_same, view_publish}
 use Rattle.plan_flights.proofs.Ripe.{part_at, fresh_not_ripe, ripe_there, ripe_is, published_level, other_published}
 use Rattle.plan_flights.proofs.Falls.{sound_claim, sound_finish, sound_close, sound_publish}
 use Rattle.plan_flights.proofs.Phases.{Closed, by_claims, by_finishes, by_ending, by_publishes}
+use Rattle.plan_laws.proofs.Lists.{All-range}
 
 -- ---- frames
 -- no pass but that of the frames has a frame

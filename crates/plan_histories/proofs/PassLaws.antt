@@ -86,10 +86,10 @@ entries_of_others_leave_parts st [] p h = ap (λ (s : State). pass_at s p) (afte
 entries_of_others_leave_parts st (e ∷ rest) p h =
     ap (λ (s : State). pass_at s p) (after_first st e rest) ∙ entries_of_others_leave_parts (step st e.pass e.event).state rest p (All-tail (λ (entry : Entry). ¬ (entry.pass ≡ p)) e rest h) ∙ others_keep_parts st e.pass p e.event (All-head (λ (entry : Entry). ¬ (entry.pass ≡ p)) e rest h)
 
-no_work : Pass
+unfoldable pub no_work : Pass
 no_work = Free
 
-all_free : (n p : ℕ) → get_or (replicate n no_work) p no_work ≡ no_work
+pub all_free : (n p : ℕ) → get_or (replicate n no_work) p no_work ≡ no_work
 all_free zero p = refl
 all_free (suc n) zero = refl
 all_free (suc n) (suc p) = all_free n p

@@ -1,11 +1,11 @@
 -- Which elements a list has: what the laws need of maps, filters, joined lists, tests and counts.
 use Rattle.std.proofs.Common.{◌≡◌, ℕ, zero, suc, ◌+◌, ◌<◌, ◌≤◌, Bool, true, false, cond, List, [], ◌∷◌, ◌++◌, map, reverse, length, get_or, set, Some, None, refl, ap, sym, ◌∙◌, subst, inl, inr, ◌⊎◌, arith}
 use Rattle.std.proofs.lemmas.Bool.{cases_Bool, cases_eq, true≢false, or_cases, or_left, or_right}
-use Rattle.std.proofs.lemmas.List.Sums.{sum_by-cons}
 use Rattle.std.proofs.lemmas.List.{reverse-append, reverse-reverse, get_or-set_same, get_or-set_other}
 use Rattle.std.proofs.lemmas.List.Elements.{All-contains, Contains-get_or}
 use Rattle.std.specs.List.{All, Contains, filter, flat_map, list_any, count_by, range_with_len}
 use Rattle.plan_model.specs.Strips.{first_of}
+use Rattle.plan_model.proofs.CoverLaws.{count_cons, one_if}
 
 -- x is an element of the list
 abbrev pub Among : {X : Type 0} → X → List X → Type 0
@@ -128,13 +128,6 @@ pub any_from : {X : Type 0} (p : X → Bool) (xs : List X) (x : X) → Among x x
 any_from p [] x h t = absurd h
 any_from p (y ∷ ys) x (inl e) t = or_left (p y) (list_any p ys) (ap p e ∙ t)
 any_from p (y ∷ ys) x (inr h) t = or_right (p y) (list_any p ys) (any_from p ys x h t)
-
--- 1 where the test passes, else 0
-abbrev pub one_if : Bool → ℕ
-one_if b = cond b 1 0
-
-pub count_cons : {X : Type 0} (p : X → Bool) (x : X) (xs : List X) → count_by p (x ∷ xs) ≡ one_if (p x) + count_by p xs
-count_cons p x xs = sum_by-cons (λ y. cond (p y) 1 0) x xs
 
 pub counted : {X : Type 0} (p : X → Bool) (xs : List X) (x : X) → Among x xs → p x ≡ true → 1 ≤ count_by p xs
 counted p [] x h t = absurd h

@@ -12,20 +12,13 @@ use Rattle.plan_model.specs.Strips.{current_strip}
 use Rattle.plan_model.specs.States.{State, Level, empty_level, level_at, window_at, finest_used, is_used, same_region}
 use Rattle.plan_model.specs.Steps.{seen_from, stays, moved_level, moved_levels, move_step}
 use Rattle.plan_model.specs.declared.events.JobNote.{JobNote}
-use Rattle.plan_holds.proofs.Cells.{HasCell, not_empty, Within, within}
 use Rattle.plan_holds.proofs.Places.{Known}
 use Rattle.plan_holds.proofs.Parts.{LevelNow, IsFirst, KeepsLevel, KeepsJob, moved_to, moved_kept, moved_job}
 use Rattle.plan_holds.proofs.Core.{now, Core, fits}
 use Rattle.plan_holds.proofs.Levels.{level_by, now_is, first_by}
+use Rattle.clip_regions.proofs.Cells.{HasCell, not_empty, Within, within, same_corners}
 
 -- ---- windows with the same cells are one
-abbrev corners : ℤ → ℤ → ℤ → ℤ → Region
-corners west north east south = record { x0 = west; y0 = north; x1 = east; y1 = south }
-
-same_corners : (r s : Region) → r.x0 ≡ s.x0 → r.y0 ≡ s.y0 → r.x1 ≡ s.x1 → r.y1 ≡ s.y1 → r ≡ s
-same_corners r s a b c d =
-    ap (λ (v : ℤ). corners v r.y0 r.x1 r.y1) a ∙ ap (λ (v : ℤ). corners s.x0 v r.x1 r.y1) b ∙ ap (λ (v : ℤ). corners s.x0 s.y0 v r.y1) c ∙ ap (λ (v : ℤ). corners s.x0 s.y0 s.x1 v) d
-
 one_region : (a b : Region) → HasCell a → HasCell b → same_region a b ≡ true → a ≡ b
 unfolding same_region
 one_region a b some other t =

@@ -18,8 +18,11 @@ use Rattle.plan_model.specs.declared.tiles.Piece.{Piece}
 use Rattle.plan_laws.specs.Pieces.{PiecesInBlocks, PiecesInRegion, OnePieceABlock}
 use Rattle.plan_laws.specs.Finished.{FinishedAreFound}
 use Rattle.plan_laws.specs.Tiles.{TilesMetByCells}
-use Rattle.plan_holds.proofs.Members.{Among, among_all, contained, first_among, mapped, flat, ranged, one_if, count_cons, counted, count_of}
-use Rattle.plan_holds.proofs.Cells.{Lies, lies, none_in_empty, held_in, holding}
+use Rattle.plan_holds.proofs.Members.{Among, among_all, contained, first_among, mapped, flat, ranged, counted, count_of}
+use Rattle.plan_holds.proofs.Cells.{none_in_empty, held_in, holding}
+use Rattle.plan_model.proofs.CoverLaws.{one_if, count_cons}
+use Rattle.clip_regions.proofs.Cells.{Lies, lies}
+use Rattle.clip_regions.proofs.Quotients.{rem_below}
 
 -- the laws of windows, strips, pieces and tiles that these proofs stand on
 pub record Known : Type 0 where
@@ -87,11 +90,6 @@ eights_and_rest : (a : ℤ) → a ≡ pos 8 *ℤ floor_div a 8 +ℤ pos (floor_r
 unfolding floor_div floor_rem
 eights_and_rest (pos n) = omega (arith, ints)
 eights_and_rest (negsuc n) = omega (arith, ints)
-
-rem_below : (a : ℤ) (d : ℕ) → 0 < d → floor_rem a d < d
-unfolding floor_rem
-rem_below (pos n) d h = omega arith
-rem_below (negsuc n) d h = omega arith
 
 some_tiles : (k : ℕ) → 4 ≤ k → 0 < tiles_per_side k
 unfolding tiles_per_side torus_side

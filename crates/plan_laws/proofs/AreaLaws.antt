@@ -1,5 +1,5 @@
 -- The laws of how many cells pieces, filled regions and strips have.
-use Rattle.std.proofs.Common.{◌≡◌, ℕ, ◌+◌, ◌-◌, ◌*◌, ◌<◌, ◌≤◌, Bool, true, false, cond, ℤ, pos, negsuc, ◌+ℤ◌, ◌-ℤ◌, ◌*ℤ◌, ◌≤ℤ◌, ◌<ℤ◌, List, [], ◌∷◌, length, Some, refl, ap, sym, ◌∙◌, subst, inl, inr, arith, zero-add}
+use Rattle.std.proofs.Common.{◌≡◌, ℕ, ◌+◌, ◌-◌, ◌*◌, ◌<◌, ◌≤◌, Bool, true, false, cond, ℤ, pos, ◌+ℤ◌, ◌-ℤ◌, ◌*ℤ◌, ◌≤ℤ◌, ◌<ℤ◌, List, [], ◌∷◌, length, Some, refl, ap, sym, ◌∙◌, subst, inl, inr, arith, zero-add}
 use Rattle.std.proofs.lemmas.Int.{ints, clamps}
 use Rattle.std.proofs.lemmas.Bool.{cases_Bool, or_cases, not-false}
 use Rattle.std.proofs.Math.Nat.{add-mul, mul-add, mul-le-mul_left, mul-le-mul_right}
@@ -17,49 +17,15 @@ use Rattle.plan_model.specs.Rounds.{unfilled_cells}
 use Rattle.plan_model.specs.Laws.{IsFilledIn}
 use Rattle.plan_laws.specs.Pieces.{blocks_between}
 use Rattle.plan_laws.specs.Areas.{RegionsHavePieces, PiecesAreNoMoreThanCells, HeldHaveNoMoreCells, HullsAddStrips, UnfilledCells}
-use Rattle.plan_laws.proofs.Quotients.{rem_below, quotient_and_rest}
-use Rattle.plan_laws.proofs.Cells.{HasCell, has_cell as in_order, Within, within, same_corners, tested_lt, spelled_empty, spelled_other, empty_is_empty, both, meet_is}
-use Rattle.plan_laws.proofs.PieceLaws.{pieces_some, pieces_none}
 use Rattle.plan_laws.proofs.CountLaws.{count_rows}
-use Rattle.plan_laws.proofs.HullLaws.{four, strips_of_some, some_there, within_if_some, hull_left, hull_right, hull_above, hull_below, hull_of_none, some_same, rectangle}
+use Rattle.plan_laws.proofs.HullLaws.{some_there, within_if_some, hull_left, hull_right, hull_above, hull_below, hull_of_none, some_same, rectangle}
+use Rattle.clip_regions.proofs.Quotients.{rem_below, quotient_and_rest}
+use Rattle.clip_regions.proofs.Cells.{HasCell, has_cell as in_order, Within, within, same_corners, tested_lt, spelled_empty, spelled_other, empty_is_empty, both, meet_is}
+use Rattle.plan_model.proofs.PieceLaws.{pieces_some, pieces_none}
+use Rattle.plan_model.proofs.CoverLaws.{four, strips_of_some}
+use Rattle.clip_regions.proofs.Sizes.{gap_is, columns_are, rows_are, no_area}
 
 -- ---- columns and rows
-gap_is : (a b : ℤ) → a ≤ℤ b → pos (int_gap a b) ≡ b -ℤ a
-gap_is (pos a) (pos b) h = omega (arith, ints)
-gap_is (pos a) (negsuc b) h = absurd (omega (arith, ints))
-gap_is (negsuc a) (pos b) h = omega (arith, ints)
-gap_is (negsuc a) (negsuc b) h = omega (arith, ints)
-
-no_gap : (a b : ℤ) → b ≤ℤ a → int_gap a b ≡ 0
-no_gap (pos a) (pos b) h = omega (arith, ints)
-no_gap (pos a) (negsuc b) h = refl
-no_gap (negsuc a) (pos b) h = absurd (omega (arith, ints))
-no_gap (negsuc a) (negsuc b) h = omega (arith, ints)
-
-columns_are : (r : Region) → HasCell r → pos (columns r) ≡ r.x1 +ℤ pos 1 -ℤ r.x0
-unfolding columns
-columns_are r some = gap_is r.x0 (r.x1 +ℤ pos 1) (omega (arith, ints))
-
-rows_are : (r : Region) → HasCell r → pos (rows r) ≡ r.y1 +ℤ pos 1 -ℤ r.y0
-unfolding rows
-rows_are r some = gap_is r.y0 (r.y1 +ℤ pos 1) (omega (arith, ints))
-
-no_columns : (r : Region) → r.x1 <ℤ r.x0 → columns r ≡ 0
-unfolding columns
-no_columns r h = no_gap r.x0 (r.x1 +ℤ pos 1) (omega (arith, ints))
-
-no_rows : (r : Region) → r.y1 <ℤ r.y0 → rows r ≡ 0
-unfolding rows
-no_rows r h = no_gap r.y0 (r.y1 +ℤ pos 1) (omega (arith, ints))
-
-no_area : (r : Region) → is_empty r ≡ true → area r ≡ 0
-unfolding area is_empty
-no_area r e =
-    elim (or_cases (lt_z r.x1 r.x0) (lt_z r.y1 r.y0) e) [
-      | inl h ↦ let none : columns r ≡ 0 = no_columns r (tested_lt r.x1 r.x0 h) in rw none (omega arith)
-      | inr h ↦ let none : rows r ≡ 0 = no_rows r (tested_lt r.y1 r.y0 h) in rw none (omega arith)
-    ]
-
 area_is : (r : Region) → area r ≡ columns r * rows r
 unfolding area
 area_is r = refl

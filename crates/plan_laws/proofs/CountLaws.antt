@@ -1,34 +1,23 @@
 -- The laws of how many pieces a region has.
-use Rattle.std.proofs.Common.{◌≡◌, ℕ, ◌+◌, ◌-◌, ◌*◌, ◌^◌, ◌<◌, ◌≤◌, ℤ, pos, negsuc, ◌+ℤ◌, ◌*ℤ◌, ◌≤ℤ◌, List, [], ◌∷◌, map, length, length-append, ap, sym, ◌∙◌, inl, inr, arith}
+use Rattle.std.proofs.Common.{◌≡◌, ℕ, ◌-◌, ◌*◌, ◌^◌, ◌<◌, ◌≤◌, ℤ, pos, negsuc, ◌+ℤ◌, ◌*ℤ◌, ◌≤ℤ◌, map, length, ap, sym, ◌∙◌, inl, inr, arith}
 use Rattle.std.proofs.lemmas.Int.{ints}
 use Rattle.std.proofs.lemmas.Bool.{cases_Bool, cond-true, cond-false}
 use Rattle.std.proofs.lemmas.List.{length-map}
-use Rattle.std.proofs.lemmas.List.FromFn.{length-range_with_len}
 use Rattle.std.proofs.Math.Nat.{mul-le-mul_left}
 use Rattle.std.proofs.Math.Pow.{pow_mono}
-use Rattle.std.specs.List.{flat_map, range_with_len}
 use Rattle.std.specs.Int.{int_gap}
-use mathlib.Core.Path.{ap₂}
 use Rattle.clip_regions.specs.declared.region.Region.{Region}
 use Rattle.clip_regions.specs.FloorDivision.{floor_div, floor_rem}
-use Rattle.clip_regions.specs.Regions.{is_empty, numbers_from}
+use Rattle.clip_regions.specs.Regions.{is_empty}
 use Rattle.plan_model.specs.Window.{half_width, window}
 use Rattle.plan_model.specs.Strips.{block_columns, block_rows, piece_in, pieces}
 use Rattle.plan_laws.specs.Pieces.{blocks_between, piece_count, PiecesAreCounted, WindowsHaveFewPieces}
-use Rattle.plan_laws.proofs.Quotients.{rem_below, quotient_and_rest}
-use Rattle.plan_laws.proofs.Cells.{Within, within}
-use Rattle.plan_laws.proofs.PieceLaws.{piece_rows, pieces_some, pieces_none}
+use Rattle.clip_regions.proofs.Quotients.{rem_below, quotient_and_rest}
+use Rattle.clip_regions.proofs.Cells.{Within, within}
+use Rattle.plan_model.proofs.PieceLaws.{piece_rows, pieces_some, pieces_none}
+use Rattle.clip_regions.proofs.Sizes.{length_rows, length_numbers}
 
 -- ---- a count
--- rows of one length
-length_rows : {A B : Type 0} (row : A → List B) (n : ℕ) → ((j : A) → length (row j) ≡ n) → (js : List A) → length (flat_map row js) ≡ n * length js
-length_rows row n each [] = omega arith
-length_rows row n each (j ∷ js) =
-    length-append (row j) (flat_map row js) ∙ ap₂ (λ (x y : ℕ). x + y) (each j) (length_rows row n each js) ∙ omega arith
-
-length_numbers : (a : ℤ) (n : ℕ) → length (numbers_from a n) ≡ n
-length_numbers a n = length-map (range_with_len 0 n) (λ (i : ℕ). a +ℤ pos i) ∙ length-range_with_len 0 n
-
 columns_count : (r : Region) → length (block_columns r) ≡ blocks_between r.x0 r.x1
 unfolding block_columns blocks_between
 columns_count r = length_numbers (floor_div r.x0 8) (int_gap (floor_div r.x0 8) (floor_div r.x1 8 +ℤ pos 1))

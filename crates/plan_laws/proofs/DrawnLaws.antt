@@ -1,19 +1,16 @@
 -- The laws of where active regions lie.
-use Rattle.std.proofs.Common.{◌≡◌, ℕ, zero, suc, ◌+◌, ◌<◌, ◌||◌, ℤ, pos, ◌-ℤ◌, List, [], ◌∷◌, length, get_or, refl, ap, sym, ◌∙◌, subst, inl, inr, arith}
+use Rattle.std.proofs.Common.{◌≡◌, ℕ, zero, suc, ◌+◌, ◌<◌, pos, List, [], ◌∷◌, length, get_or, refl, ap, sym, ◌∙◌, subst, inl, inr, arith}
 use Rattle.std.proofs.lemmas.Int.{ints}
-use Rattle.std.proofs.lemmas.Bool.{cond_both}
-use Rattle.std.specs.Int.{int_max, int_min}
-use lib.Signed.{lt_z}
 use Rattle.clip_regions.specs.declared.region.Region.{Region}
-use Rattle.clip_regions.specs.FloorDivision.{floor_rem}
 use Rattle.clip_regions.specs.Regions.{empty_region, meet, erode, double, HasEvenCorners}
 use Rattle.plan_model.specs.Window.{margin, window}
-use Rattle.plan_model.specs.Actives.{drawable, inner, active_of, actives_by, filled_from, actives}
+use Rattle.plan_model.specs.Actives.{inner, active_of, actives_by, filled_from, actives}
 use Rattle.plan_model.specs.Sound.{IsEvenInside, IsPartOf, IsShown}
 use Rattle.plan_laws.specs.Drawn.{ActivesAreAsMany, AreShown, ActivesAreShown}
-use Rattle.plan_laws.proofs.Quotients.{even_from}
-use Rattle.plan_laws.proofs.Cells.{HasCell, Within, spelled_by, both, meet_is, in_left, in_right}
 use Rattle.plan_laws.proofs.HullLaws.{within_inside}
+use Rattle.plan_model.proofs.Quotients.{even_from}
+use Rattle.clip_regions.proofs.Cells.{HasCell, Within, spelled_by, both, meet_is, in_left, in_right, larger_has_cell}
+use Rattle.plan_model.proofs.ActiveLaws.{drawable_by, both_even}
 
 -- ---- as many
 actives_by_many : (e : ℕ) (filled : List Region) → length (actives_by e filled) ≡ length filled
@@ -32,30 +29,6 @@ actives_are_as_many k finest filled =
     actives_by_many (margin k) (filled_from finest filled) ∙ filled_from_many finest filled
 
 -- ---- one active region
--- what is true of the empty region and of r is true of what can be drawn of r
-drawable_by : (P : Region → Type 0) (r : Region) → P empty_region → P r → P (drawable r)
-unfolding drawable
-drawable_by P r at_empty at_region =
-    cond_both (lt_z (r.x1 -ℤ r.x0) (pos 2) || lt_z (r.y1 -ℤ r.y0) (pos 2)) empty_region r P (λ e. at_empty) (λ e. at_region)
-
-max_even : (a b : ℤ) → floor_rem a 2 ≡ 0 → floor_rem b 2 ≡ 0 → floor_rem (int_max a b) 2 ≡ 0
-max_even a b p q = cond_both (lt_z b a) a b (λ (z : ℤ). floor_rem z 2 ≡ 0) (λ e. p) (λ e. q)
-
-min_even : (a b : ℤ) → floor_rem a 2 ≡ 0 → floor_rem b 2 ≡ 0 → floor_rem (int_min a b) 2 ≡ 0
-min_even a b p q = cond_both (lt_z b a) b a (λ (z : ℤ). floor_rem z 2 ≡ 0) (λ e. q) (λ e. p)
-
-both_even : (a b : Region) → HasEvenCorners a → HasEvenCorners b → HasEvenCorners (both a b)
-unfolding both
-both_even a b p q = record {
-  x0 = max_even a.x0 b.x0 p.x0 q.x0;
-  y0 = max_even a.y0 b.y0 p.y0 q.y0;
-  x1 = min_even a.x1 b.x1 p.x1 q.x1;
-  y1 = min_even a.y1 b.y1 p.y1 q.y1;
-}
-
-larger_has_cell : (a b : Region) → Within a b → HasCell b → HasCell a
-larger_has_cell a b w some = record { across = omega (arith, ints); along = omega (arith, ints) }
-
 -- a meet of an even part of a window with a region that is even where it has a cell
 both_part : (w a b : Region) → IsEvenInside w a → (HasCell b → HasEvenCorners b) → HasCell (both a b) → IsEvenInside w (both a b)
 both_part w a b part even some =

@@ -1,34 +1,21 @@
 -- The law of a filled region that grows: what it becomes with each of the four strips at its sides.
-use Rattle.std.proofs.Common.{◌≡◌, ℕ, Bool, true, false, cond, ℤ, List, [], ◌∷◌, Some, refl, ap, sym, ◌∙◌, subst, inl, inr, arith}
+use Rattle.std.proofs.Common.{◌≡◌, ℕ, true, false, ℤ, [], ◌∷◌, Some, refl, ap, sym, ◌∙◌, subst, inl, inr, arith}
 use Rattle.std.proofs.lemmas.Int.{ints, clamps}
 use Rattle.std.proofs.lemmas.Bool.{not-true, true≢false}
 use Rattle.std.proofs.lemmas.List.Elements.{All-nil, All-cons}
-use Rattle.std.specs.List.{filter}
 use Rattle.std.specs.Int.{int_min, int_max}
 use Rattle.clip_regions.specs.declared.region.Region.{Region}
 use Rattle.clip_regions.specs.Regions.{is_empty, holds, HasEvenCorners}
 use Rattle.plan_model.specs.Window.{window}
-use Rattle.plan_model.specs.Strips.{first_of, has_cell, left_of, right_of, above, below, strips, current_strip, hull}
+use Rattle.plan_model.specs.Strips.{first_of, has_cell, left_of, right_of, above, below, current_strip, hull}
 use Rattle.plan_model.specs.Sound.{IsInside, IsEvenInside}
 use Rattle.plan_model.specs.Laws.{IsFilledIn, EvenWindows}
 use Rattle.plan_laws.specs.Hulls.{InsideIsHeld, PartsAreFilledIn, HullsAreEvenInside}
-use Rattle.plan_laws.proofs.Cells.{HasCell, has_cell as in_order, not_empty, same_corners, empty_is_empty, Within, within, holds_within}
 use Rattle.plan_laws.proofs.Lists.{first_passes}
+use Rattle.clip_regions.proofs.Cells.{HasCell, has_cell as in_order, not_empty, same_corners, empty_is_empty, Within, within, holds_within}
+use Rattle.plan_model.proofs.CoverLaws.{four, strips_of_some, strips_of_none}
 
 -- ---- the strips
-unfoldable pub four : Region → Region → List Region
-four f w = left_of f w ∷ right_of f w ∷ above f w ∷ below f w ∷ []
-
-pub strips_of_some : (f w : Region) → is_empty f ≡ false → strips f w ≡ filter has_cell (four f w)
-unfolding strips four
-strips_of_some f w e =
-    ap (λ (b : Bool). cond b (w ∷ []) (filter has_cell (left_of f w ∷ right_of f w ∷ above f w ∷ below f w ∷ []))) e
-
-pub strips_of_none : (f w : Region) → is_empty f ≡ true → strips f w ≡ w ∷ []
-unfolding strips
-strips_of_none f w e =
-    ap (λ (b : Bool). cond b (w ∷ []) (filter has_cell (left_of f w ∷ right_of f w ∷ above f w ∷ below f w ∷ []))) e
-
 pub some_there : (r : Region) → has_cell r ≡ true → is_empty r ≡ false
 unfolding has_cell
 some_there r e = not-true (is_empty r) e

@@ -1,5 +1,3 @@
-pub mod Cells
-pub mod Quotients
 pub mod Lists
 pub mod PieceLaws
 pub mod CountLaws

@@ -9,9 +9,10 @@ use Rattle.plan_model.specs.Blocks.{block_cells}
 use Rattle.plan_model.specs.Strips.{need}
 use Rattle.plan_model.specs.declared.tiles.Piece.{Piece}
 use Rattle.plan_laws.specs.Needs.{NeedsHaveCells, NeedsAreMonotone, NeedsInCoarserWindows, patch_of, NeedsInPatches}
-use Rattle.plan_laws.proofs.Quotients.{rem_below, quotient_and_rest, half_quotient, next_power, some_power}
-use Rattle.plan_laws.proofs.Cells.{HasCell, has_cell, not_empty, Within, within, holds_within}
 use Rattle.plan_laws.proofs.PieceLaws.{pieces_have_cells, pieces_in_blocks}
+use Rattle.clip_regions.proofs.Quotients.{rem_below, quotient_and_rest}
+use Rattle.plan_model.proofs.Quotients.{half_quotient, next_power, some_power}
+use Rattle.clip_regions.proofs.Cells.{HasCell, has_cell, not_empty, Within, within, holds_within}
 
 half_rises : (a b : ℤ) → a ≤ℤ b → floor_div a 2 ≤ℤ floor_div b 2
 half_rises a b h =

@@ -1,9 +1,9 @@
 -- The laws of pieces.
-use Rattle.std.proofs.Common.{◌≡◌, ℕ, ◌+◌, ◌<◌, ◌≤◌, Bool, true, false, cond, ℤ, pos, negsuc, ◌+ℤ◌, ◌*ℤ◌, ◌≤ℤ◌, ◌<ℤ◌, List, [], map, get_or, refl, ap, sym, ◌∙◌, subst, inl, inr, arith}
+use Rattle.std.proofs.Common.{◌≡◌, ℕ, ◌+◌, ◌<◌, ◌≤◌, true, false, ℤ, pos, negsuc, ◌+ℤ◌, ◌*ℤ◌, ◌≤ℤ◌, ◌<ℤ◌, List, map, get_or, refl, ap, sym, ◌∙◌, subst, inl, inr, arith}
 use Rattle.std.proofs.lemmas.Int.{ints}
 use Rattle.std.proofs.lemmas.Bool.{cases_Bool, and_parts, and_left, and_right}
 use Rattle.std.proofs.lemmas.List.Elements.{All-nil, All-map}
-use Rattle.std.specs.List.{All, Contains, flat_map, range_with_len}
+use Rattle.std.specs.List.{All, Contains, range_with_len}
 use Rattle.std.specs.Int.{int_gap}
 use mathlib.Core.Path.{ap₂}
 use lib.Signed.{le_z}
@@ -15,9 +15,10 @@ use Rattle.plan_model.specs.Strips.{block_columns, block_rows, piece_in, pieces}
 use Rattle.plan_model.specs.Laws.{OneTileABlock}
 use Rattle.plan_model.specs.declared.tiles.Piece.{Piece}
 use Rattle.plan_laws.specs.Pieces.{PiecesAreMeets, PiecesHaveCells, PiecesInBlocks, PiecesInRegion, PiecesInTiles, DifferentBlocks, OnePieceABlock}
-use Rattle.plan_laws.proofs.Quotients.{rem_below, quotient_and_rest}
-use Rattle.plan_laws.proofs.Cells.{Lies, lies, HasCell, has_cell, not_empty, both, meet_is, meet_in_left, meet_in_right, meet_cells, spelled_other, tested_le}
 use Rattle.plan_laws.proofs.Lists.{All-range, All-flat_map, Pairs, pairs_nil, pairs_map, pairs_range, pairs_weaker, pairs_flat_map, all_pairs}
+use Rattle.clip_regions.proofs.Quotients.{rem_below, quotient_and_rest}
+use Rattle.clip_regions.proofs.Cells.{Lies, lies, HasCell, has_cell, not_empty, both, meet_is, meet_in_left, meet_in_right, meet_cells, spelled_other, tested_le}
+use Rattle.plan_model.proofs.PieceLaws.{piece_rows, pieces_some, pieces_none}
 
 -- ---- the listed blocks
 -- a number of a gap stays below the gap's end
@@ -37,19 +38,6 @@ all_listed P first last each =
     All-map P (λ (i : ℕ). floor_div first 8 +ℤ pos i) (range_with_len 0 (int_gap (floor_div first 8) (floor_div last 8 +ℤ pos 1))) (All-range (λ (i : ℕ). P (floor_div first 8 +ℤ pos i)) 0 (int_gap (floor_div first 8) (floor_div last 8 +ℤ pos 1)) (λ (i : ℕ) (low : 0 ≤ i) (high : i < 0 + int_gap (floor_div first 8) (floor_div last 8 +ℤ pos 1)). let inside : i < int_gap (floor_div first 8) (floor_div last 8 +ℤ pos 1) = omega arith in let below : (floor_div first 8 +ℤ pos i) <ℤ (floor_div last 8 +ℤ pos 1) = below_gap (floor_div first 8) (floor_div last 8 +ℤ pos 1) i inside in each (floor_div first 8 +ℤ pos i) (record { low = omega (arith, ints); high = omega (arith, ints) })))
 
 -- ---- what is true of each piece
-unfoldable pub piece_rows : Region → List Piece
-piece_rows r = flat_map (λ by. map (λ bx. piece_in r bx by) (block_columns r)) (block_rows r)
-
-pub pieces_some : (r : Region) → is_empty r ≡ false → pieces r ≡ piece_rows r
-unfolding pieces piece_rows
-pieces_some r e =
-    ap (λ (b : Bool). cond b [] (flat_map (λ (by : ℤ). map (λ (bx : ℤ). piece_in r bx by) (block_columns r)) (block_rows r))) e
-
-pub pieces_none : (r : Region) → is_empty r ≡ true → pieces r ≡ []
-unfolding pieces
-pieces_none r e =
-    ap (λ (b : Bool). cond b [] (flat_map (λ (by : ℤ). map (λ (bx : ℤ). piece_in r bx by) (block_columns r)) (block_rows r))) e
-
 all_rows : (P : Piece → Type 0) (r : Region) → ((bx by : ℤ) → Listed r.x0 r.x1 bx → Listed r.y0 r.y1 by → P (piece_in r bx by)) → All P (piece_rows r)
 unfolding piece_rows block_columns block_rows
 all_rows P r each =

@@ -14,7 +14,7 @@ use Rattle.plan_model.specs.Tiles.{tiles, meets_tile, tiles_met}
 use Rattle.plan_model.specs.declared.tiles.Piece.{Piece}
 use Rattle.plan_model.specs.declared.tiles.TileId.{TileId}
 use Rattle.plan_laws.specs.Tiles.{meets_column, meets_row, TilesMetBySides, TilesMetAreProducts}
-use Rattle.plan_laws.proofs.PieceLaws.{piece_rows, pieces_some}
+use Rattle.plan_model.proofs.PieceLaws.{piece_rows, pieces_some}
 
 -- ---- a test of rows and one of columns
 any_map : {X Y : Type 0} (p : Y → Bool) (f : X → Y) (xs : List X) → list_any p (map f xs) ≡ list_any (λ x. p (f x)) xs

@@ -11,8 +11,9 @@ use Rattle.plan_model.specs.Strips.{first_of, has_cell, left_of, right_of, above
 use Rattle.plan_model.specs.States.{same_region}
 use Rattle.plan_model.specs.Laws.{IsFilledIn}
 use Rattle.plan_laws.specs.Hulls.{StripsInWindows, StripsUnlessWhole}
-use Rattle.plan_laws.proofs.Cells.{HasCell, has_cell as in_order, not_empty, Within, within, holds_within}
-use Rattle.plan_laws.proofs.HullLaws.{four, strips_of_some, strips_of_none, current_is, whole_strip, within_if_some, within_itself, window_has_cell}
+use Rattle.plan_laws.proofs.HullLaws.{current_is, whole_strip, within_if_some, within_itself, window_has_cell}
+use Rattle.clip_regions.proofs.Cells.{HasCell, has_cell as in_order, not_empty, Within, within, holds_within}
+use Rattle.plan_model.proofs.CoverLaws.{four, strips_of_some, strips_of_none}
 
 -- ---- where it lies
 record IsPartOf (w s : Region) : Type 0 where

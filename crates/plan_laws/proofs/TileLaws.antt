@@ -15,7 +15,7 @@ use Rattle.plan_model.specs.declared.tiles.Piece.{Piece}
 use Rattle.plan_model.specs.declared.tiles.TileId.{TileId}
 use Rattle.plan_laws.specs.Pieces.{PiecesHaveCells, PiecesInRegion, PiecesInTiles}
 use Rattle.plan_laws.specs.Tiles.{HasCellOfTile, TilesMetByCells}
-use Rattle.plan_laws.proofs.Cells.{has_cell, lying, corner_lies, within, held_cell}
+use Rattle.clip_regions.proofs.Cells.{has_cell, lying, corner_lies, within, held_cell}
 
 -- ---- one tile
 abbrev tile : ℕ → ℕ → TileId

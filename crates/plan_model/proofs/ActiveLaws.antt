@@ -1,20 +1,21 @@
 -- The laws of active regions.
-use Rattle.std.proofs.Common.{◌≡◌, ℕ, zero, suc, true, false, ◌||◌, ℤ, pos, ◌-ℤ◌, ◌*ℤ◌, List, [], ◌∷◌, refl, ap, sym, ◌∙◌, subst, inl, inr, arith}
+use Rattle.std.proofs.Common.{◌≡◌, ℕ, zero, suc, true, false, ◌||◌, ℤ, pos, ◌-ℤ◌, List, [], ◌∷◌, refl, sym, ◌∙◌, subst, inl, inr, arith}
 use Rattle.std.proofs.lemmas.Int.{ints}
-use Rattle.std.proofs.lemmas.Bool.{cases_Bool, cond_both, true≢false}
+use Rattle.std.proofs.lemmas.Bool.{cond_both, true≢false}
 use Rattle.std.specs.Int.{int_min, int_max}
 use lib.Signed.{lt_z}
 use Rattle.clip_regions.specs.declared.region.Region.{Region}
-use Rattle.clip_regions.specs.FloorDivision.{floor_div, floor_rem}
-use Rattle.clip_regions.specs.Regions.{is_empty, empty_region, spelled, meet, erode, halve, double, holds, HasEvenCorners}
+use Rattle.clip_regions.specs.FloorDivision.{floor_rem}
+use Rattle.clip_regions.specs.Regions.{is_empty, empty_region, meet, erode, halve, double, holds, HasEvenCorners}
 use Rattle.plan_model.specs.Window.{margin}
 use Rattle.plan_model.specs.Actives.{drawable, inner, active_of, actives_by, filled_from, actives}
 use Rattle.plan_model.specs.Laws.{IsEvenOrEmpty, AllEvenOrEmpty, EvenActives, AreNested, NestedActives, AllIn, ActivesAreFilled}
-use Rattle.plan_model.proofs.Quotients.{even_from, half_at_least, half_at_most}
-use Rattle.plan_model.proofs.Cells.{HasCell, has_cell, not_empty, spelled_empty, spelled_other, spelled_by, empty_is_empty, holds_empty, Within, holds_within, within, both, meet_is, in_left, in_right, kept_in, meet_in_left, meet_in_right}
+use Rattle.plan_model.proofs.Quotients.{half_at_least, half_at_most}
+use Rattle.clip_regions.proofs.Cells.{HasCell, has_cell, not_empty, spelled_by, empty_is_empty, holds_empty, Within, holds_within, within, both, meet_is, in_left, in_right, kept_in, meet_in_left, meet_in_right, larger_has_cell, spelled_same}
+use Rattle.clip_regions.proofs.Sizes.{halved, halve_is, doubled, double_is, doubled_even}
 
 -- what is true of the empty region and of r is true of what can be drawn of r
-drawable_by : (P : Region → Type 0) (r : Region) → P empty_region → P r → P (drawable r)
+unfoldable pub drawable_by : (P : Region → Type 0) (r : Region) → P empty_region → P r → P (drawable r)
 unfolding drawable
 drawable_by P r at_empty at_region =
     cond_both (lt_z (r.x1 -ℤ r.x0) (pos 2) || lt_z (r.y1 -ℤ r.y0) (pos 2)) empty_region r P (λ e. at_empty) (λ e. at_region)
@@ -32,9 +33,6 @@ active_in e filled (coarser ∷ rest) =
 all_in : (e : ℕ) (filled : List Region) → AllIn filled (actives_by e filled)
 all_in e [] = tt
 all_in e (filled ∷ rest) = (active_in e filled (actives_by e rest), all_in e rest)
-
-larger_has_cell : (a b : Region) → Within a b → HasCell b → HasCell a
-larger_has_cell a b w some = record { across = omega (arith, ints); along = omega (arith, ints) }
 
 -- what meets a region without a cell has none
 meet_empty : (b : Region) → is_empty (meet empty_region b) ≡ true
@@ -58,28 +56,6 @@ unfolding actives
 actives_are_filled k finest filled = all_filled (margin k) finest filled
 
 -- ---- nested by the margin
-doubled : Region → Region
-doubled r = record { x0 = pos 2 *ℤ r.x0; y0 = pos 2 *ℤ r.y0; x1 = pos 2 *ℤ r.x1; y1 = pos 2 *ℤ r.y1 }
-
-double_is : (r : Region) → double r ≡ spelled (doubled r)
-unfolding double doubled
-double_is r = refl
-
-halved : Region → Region
-halved r = record { x0 = floor_div r.x0 2; y0 = floor_div r.y0 2; x1 = floor_div r.x1 2; y1 = floor_div r.y1 2 }
-
-halve_is : (r : Region) → halve r ≡ spelled (halved r)
-unfolding halve halved
-halve_is r = refl
-
--- a region whose spelling has a cell is spelled as it is
-spelled_same : (r : Region) → HasCell (spelled r) → spelled r ≡ r
-spelled_same r some =
-    elim (cases_Bool (is_empty r)) [
-      | inl e ↦ absurd (true≢false (sym (ap is_empty (spelled_empty r e) ∙ empty_is_empty) ∙ not_empty (spelled r) some))
-      | inr e ↦ spelled_other r e
-    ]
-
 halves_within : (a b : Region) → Within (doubled a) b → Within a (halved b)
 unfolding doubled halved
 halves_within a b w = record {
@@ -115,20 +91,11 @@ unfolding actives
 nested_actives k finest filled = nested_all (margin k) (filled_from finest filled)
 
 -- ---- even corners
-doubled_even : (r : Region) → HasEvenCorners (doubled r)
-unfolding doubled
-doubled_even r = record {
-  x0 = even_from (pos 2 *ℤ r.x0) r.x0 refl;
-  y0 = even_from (pos 2 *ℤ r.y0) r.y0 refl;
-  x1 = even_from (pos 2 *ℤ r.x1) r.x1 refl;
-  y1 = even_from (pos 2 *ℤ r.y1) r.y1 refl;
-}
-
 double_even : (r : Region) → IsEvenOrEmpty (double r)
 double_even r =
     subst IsEvenOrEmpty (sym (double_is r)) (spelled_by IsEvenOrEmpty (doubled r) (inl empty_is_empty) (λ (some : HasCell (doubled r)). inr (doubled_even r)))
 
-even_if_cell : (r : Region) → IsEvenOrEmpty r → HasCell r → HasEvenCorners r
+pub even_if_cell : (r : Region) → IsEvenOrEmpty r → HasCell r → HasEvenCorners r
 even_if_cell r (inl e) some = absurd (true≢false (sym e ∙ not_empty r some))
 even_if_cell r (inr even) some = even
 
@@ -138,7 +105,7 @@ max_even a b p q = cond_both (lt_z b a) a b (λ (z : ℤ). floor_rem z 2 ≡ 0) 
 min_even : (a b : ℤ) → floor_rem a 2 ≡ 0 → floor_rem b 2 ≡ 0 → floor_rem (int_min a b) 2 ≡ 0
 min_even a b p q = cond_both (lt_z b a) b a (λ (z : ℤ). floor_rem z 2 ≡ 0) (λ e. q) (λ e. p)
 
-both_even : (a b : Region) → HasEvenCorners a → HasEvenCorners b → HasEvenCorners (both a b)
+pub both_even : (a b : Region) → HasEvenCorners a → HasEvenCorners b → HasEvenCorners (both a b)
 unfolding both
 both_even a b p q = record {
   x0 = max_even a.x0 b.x0 p.x0 q.x0;

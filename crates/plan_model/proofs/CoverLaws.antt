@@ -12,7 +12,7 @@ use Rattle.clip_regions.specs.declared.region.Region.{Region}
 use Rattle.clip_regions.specs.Regions.{contains, is_empty}
 use Rattle.plan_model.specs.Strips.{first_of, has_cell, left_of, right_of, above, below, strips, current_strip, hull}
 use Rattle.plan_model.specs.Laws.{StripsPartition, GrowsToRectangle}
-use Rattle.plan_model.proofs.Cells.{HasCell, has_cell as in_order, not_empty, none_in_empty, same_corners, Within, within, tested_lt}
+use Rattle.clip_regions.proofs.Cells.{HasCell, has_cell as in_order, not_empty, none_in_empty, same_corners, Within, within, tested_lt}
 
 -- ---- counts
 -- 1 where the test passes, else 0
@@ -74,15 +74,15 @@ count_five i j a b c d e =
     count_one i j a (b ∷ c ∷ d ∷ e ∷ []) ∙ ap (λ (n : ℕ). across a i * along a j + n) (count_one i j b (c ∷ d ∷ e ∷ []) ∙ ap (λ (n : ℕ). across b i * along b j + n) (count_one i j c (d ∷ e ∷ []) ∙ ap (λ (n : ℕ). across c i * along c j + n) (count_one i j d (e ∷ []) ∙ ap (λ (n : ℕ). across d i * along d j + n) (count_one i j e []))))
 
 -- ---- the strips cover the window
-four : Region → Region → List Region
+unfoldable pub four : Region → Region → List Region
 four f w = left_of f w ∷ right_of f w ∷ above f w ∷ below f w ∷ []
 
-strips_of_some : (f w : Region) → is_empty f ≡ false → strips f w ≡ filter has_cell (four f w)
+pub strips_of_some : (f w : Region) → is_empty f ≡ false → strips f w ≡ filter has_cell (four f w)
 unfolding strips four
 strips_of_some f w e =
     ap (λ (b : Bool). cond b (w ∷ []) (filter has_cell (left_of f w ∷ right_of f w ∷ above f w ∷ below f w ∷ []))) e
 
-strips_of_none : (f w : Region) → is_empty f ≡ true → strips f w ≡ w ∷ []
+pub strips_of_none : (f w : Region) → is_empty f ≡ true → strips f w ≡ w ∷ []
 unfolding strips
 strips_of_none f w e =
     ap (λ (b : Bool). cond b (w ∷ []) (filter has_cell (left_of f w ∷ right_of f w ∷ above f w ∷ below f w ∷ []))) e

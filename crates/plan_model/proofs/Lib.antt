@@ -1,4 +1,3 @@
-pub mod Cells
 pub mod Quotients
 pub mod WindowLaws
 pub mod ActiveLaws

@@ -1,5 +1,5 @@
 -- The law of pieces: they cover a region. The count of the pieces that have a cell is a product of three: whether the region has the cell, and how often the cell's block column and block row are listed.
-use Rattle.std.proofs.Common.{◌≡◌, ℕ, zero, suc, ◌+◌, ◌*◌, ◌<◌, ◌≤◌, Bool, true, false, cond, ◌&&◌, ℤ, pos, negsuc, ◌+ℤ◌, ◌-ℤ◌, ◌*ℤ◌, ◌≤ℤ◌, ◌<ℤ◌, List, [], ◌∷◌, map, refl, ap, sym, ◌∙◌, inl, inr, arith, zero-add}
+use Rattle.std.proofs.Common.{◌≡◌, ℕ, zero, suc, ◌+◌, ◌*◌, ◌<◌, ◌≤◌, Bool, true, false, cond, ◌&&◌, ℤ, pos, ◌+ℤ◌, ◌-ℤ◌, ◌*ℤ◌, ◌≤ℤ◌, ◌<ℤ◌, List, [], ◌∷◌, map, refl, ap, sym, ◌∙◌, inl, inr, arith, zero-add}
 use Rattle.std.proofs.lemmas.Int.{ints}
 use Rattle.std.proofs.lemmas.Bool.{cases_Bool, cases_eq}
 use Rattle.std.proofs.lemmas.List.Sums.{sum_by-append}
@@ -15,9 +15,10 @@ use Rattle.plan_model.specs.Blocks.{same_number, block_cells}
 use Rattle.plan_model.specs.Strips.{block_columns, block_rows, piece_in, pieces}
 use Rattle.plan_model.specs.Laws.{PiecesPartition}
 use Rattle.plan_model.specs.declared.tiles.Piece.{Piece}
-use Rattle.plan_model.proofs.Quotients.{rem_below, quotient_and_rest}
-use Rattle.plan_model.proofs.Cells.{Lies, lies, none_in_empty, meet_cells}
 use Rattle.plan_model.proofs.CoverLaws.{one_if, one_and, count_cons}
+use Rattle.clip_regions.proofs.Quotients.{rem_below, quotient_and_rest}
+use Rattle.clip_regions.proofs.Cells.{Lies, lies, none_in_empty, meet_cells}
+use Rattle.clip_regions.proofs.Sizes.{gap_is}
 
 -- ---- sums over lists
 sum_cons : {X : Type 0} (g : X → ℕ) (x : X) (xs : List X) → sum_by g (x ∷ xs) ≡ g x + sum_by g xs
@@ -67,12 +68,6 @@ listed_once a m s (suc n) h k =
       | inl e ↦ count_cons (λ (i : ℕ). same_number (a +ℤ pos i) (a +ℤ pos m)) s (range_with_len (s + 1) n) ∙ ap₂ (λ (b : Bool) (c : ℕ). one_if b + c) (same_yes a s m e) (listed_before a m (s + 1) n (omega arith))
       | inr e ↦ count_cons (λ (i : ℕ). same_number (a +ℤ pos i) (a +ℤ pos m)) s (range_with_len (s + 1) n) ∙ ap₂ (λ (b : Bool) (c : ℕ). one_if b + c) (same_no a s m e) (listed_once a m (s + 1) n (omega arith) (omega arith))
     ]
-
-gap_is : (a b : ℤ) → a ≤ℤ b → pos (int_gap a b) ≡ b -ℤ a
-gap_is (pos a) (pos b) h = omega (arith, ints)
-gap_is (pos a) (negsuc b) h = absurd (omega (arith, ints))
-gap_is (negsuc a) (pos b) h = omega (arith, ints)
-gap_is (negsuc a) (negsuc b) h = omega (arith, ints)
 
 listed_in : (a b : ℤ) (n : ℕ) → a ≤ℤ b → b <ℤ (a +ℤ pos n) → count_by (λ z. same_number z b) (numbers_from a n) ≡ 1
 listed_in a b n low high =
@@ -136,7 +131,7 @@ unfolding columns_listed
 row_count r i j by =
     count_map (λ (piece : Piece). contains piece.cells i j) (λ (bx : ℤ). piece_in r bx by) (block_columns r) ∙ sum_same (λ (bx : ℤ). one_if (contains (piece_in r bx by).cells i j)) (λ (bx : ℤ). (one_if (contains r i j) * one_if (same_number by (floor_div j 8))) * one_if (same_number bx (floor_div i 8))) (λ (bx : ℤ). piece_one r i j bx by) (block_columns r) ∙ sum_scaled (one_if (contains r i j) * one_if (same_number by (floor_div j 8))) (λ (bx : ℤ). one_if (same_number bx (floor_div i 8))) (block_columns r) ∙ swap_last (one_if (contains r i j)) (one_if (same_number by (floor_div j 8))) (columns_listed r i)
 
-piece_rows : Region → List Piece
+unfoldable pub piece_rows : Region → List Piece
 piece_rows r = flat_map (λ by. map (λ bx. piece_in r bx by) (block_columns r)) (block_rows r)
 
 all_count : (r : Region) (i j : ℤ) → count_by (λ (piece : Piece). contains piece.cells i j) (piece_rows r) ≡ (one_if (contains r i j) * columns_listed r i) * rows_listed r j
@@ -162,12 +157,12 @@ product_of r i j =
       | inr e ↦ rw e (nothing (columns_listed r i) (rows_listed r j))
     ]
 
-pieces_some : (r : Region) → is_empty r ≡ false → pieces r ≡ piece_rows r
+pub pieces_some : (r : Region) → is_empty r ≡ false → pieces r ≡ piece_rows r
 unfolding pieces piece_rows
 pieces_some r e =
     ap (λ (b : Bool). cond b [] (flat_map (λ (by : ℤ). map (λ (bx : ℤ). piece_in r bx by) (block_columns r)) (block_rows r))) e
 
-pieces_none : (r : Region) → is_empty r ≡ true → pieces r ≡ []
+pub pieces_none : (r : Region) → is_empty r ≡ true → pieces r ≡ []
 unfolding pieces
 pieces_none r e =
     ap (λ (b : Bool). cond b [] (flat_map (λ (by : ℤ). map (λ (bx : ℤ). piece_in r bx by) (block_columns r)) (block_rows r))) e

@@ -6,17 +6,7 @@ use Rattle.std.proofs.Math.Nat.{div-div-eq-div-mul, mul-le-mul_left}
 use Rattle.std.proofs.Math.Pow.{pow_mono}
 use borrow.Author.Differences.{up, down}
 use Rattle.clip_regions.specs.FloorDivision.{floor_div, floor_rem}
-
-pub rem_below : (a : ℤ) (d : ℕ) → 0 < d → floor_rem a d < d
-unfolding floor_rem
-rem_below (pos n) d h = omega arith
-rem_below (negsuc n) d h = omega arith
-
--- the number is d quotients and the remainder
-pub quotient_and_rest : (a : ℤ) (d : ℕ) → 0 < d → a ≡ pos d *ℤ floor_div a d +ℤ pos (floor_rem a d)
-unfolding floor_div floor_rem
-quotient_and_rest (pos n) d h = omega (arith, ints)
-quotient_and_rest (negsuc n) d h = omega (arith, ints)
+use Rattle.clip_regions.proofs.Quotients.{rem_below, quotient_and_rest}
 
 -- half of a quotient is the quotient by twice the divisor
 pub half_quotient : (v : ℤ) (d : ℕ) → floor_div (floor_div v d) 2 ≡ floor_div v (d * 2)
@@ -59,7 +49,7 @@ some_power n = pow_mono {i = 0} {j = n} (omega arith)
 
 -- ---- blocks of eight
 -- a remainder by 8 t, by the remainder of the quotient by 8 and that by 8
-rem_by_blocks : (n t : ℕ) → 0 < t → n % (8 * t) ≡ 8 * (n / 8 % t) + n % 8
+pub rem_by_blocks : (n t : ℕ) → 0 < t → n % (8 * t) ≡ 8 * (n / 8 % t) + n % 8
 rem_by_blocks n t h =
     let scaled : (8 * t) * (n / (8 * t)) ≡ (8 * t) * (n / 8 / t) = ap (λ (q : ℕ). (8 * t) * q) (sym (div-div-eq-div-mul n 8 t)) in
     let some : 0 < 8 * t = omega arith in
@@ -83,7 +73,7 @@ order_times a b m h =
     let scaled : m * (up a + down b + 1) ≤ m * (up b + down a) = mul-le-mul_left m gap in
     omega (arith, ints, scaled)
 
-same_quotient : (q q' : ℤ) (m : ℕ) → (pos m *ℤ q) <ℤ (pos m *ℤ q' +ℤ pos m) → (pos m *ℤ q') <ℤ (pos m *ℤ q +ℤ pos m) → q ≡ q'
+pub same_quotient : (q q' : ℤ) (m : ℕ) → (pos m *ℤ q) <ℤ (pos m *ℤ q' +ℤ pos m) → (pos m *ℤ q') <ℤ (pos m *ℤ q +ℤ pos m) → q ≡ q'
 same_quotient q q' m h k =
     by_lt_z q q' (λ (l : q <ℤ q'). let apart : (pos m *ℤ q +ℤ pos m) ≤ℤ (pos m *ℤ q') = order_times q q' m l in absurd (omega (arith, ints))) (λ (g : q' ≤ℤ q). by_lt_z q' q (λ (l : q' <ℤ q). let apart : (pos m *ℤ q' +ℤ pos m) ≤ℤ (pos m *ℤ q) = order_times q' q m l in absurd (omega (arith, ints))) (λ (e : q ≤ℤ q'). omega (arith, ints)))
 

@@ -10,11 +10,12 @@ use Rattle.plan_model.specs.Window.{torus_side, half_width, center, window}
 use Rattle.plan_model.specs.Blocks.{tiles_per_side, tile_of, tile_of_cell, wrapped_place}
 use Rattle.plan_model.specs.Laws.{EvenWindows, NestedWindows, OneTileABlock, DistinctPlaces}
 use Rattle.plan_model.specs.declared.tiles.TileId.{TileId}
-use Rattle.plan_model.proofs.Quotients.{rem_below, quotient_and_rest, half_quotient, half_of, even_from, next_power, some_power, block_of_rem, same_from_rem}
-use Rattle.plan_model.proofs.Cells.{Lies, lies, HasCell, not_empty, spelled_other, Within, holds_within}
+use Rattle.plan_model.proofs.Quotients.{half_quotient, half_of, even_from, next_power, some_power, block_of_rem, same_from_rem}
+use Rattle.clip_regions.proofs.Quotients.{rem_below, quotient_and_rest}
+use Rattle.clip_regions.proofs.Cells.{Lies, lies, HasCell, not_empty, spelled_other, Within, holds_within, larger_has_cell}
 
 -- ---- even corners
-half_is : (k : ℕ) → 2 ≤ k → half_width k + 1 ≡ 2 * 2 ^ (k - 2)
+pub half_is : (k : ℕ) → 2 ≤ k → half_width k + 1 ≡ 2 * 2 ^ (k - 2)
 unfolding half_width
 half_is k h =
     let next : k - 1 ≡ k - 2 + 1 = omega arith in
@@ -117,9 +118,6 @@ half_within k level x y h = record {
   north = nested_west k level y h;
   south = nested_east k level y h;
 }
-
-larger_has_cell : (a b : Region) → Within a b → HasCell b → HasCell a
-larger_has_cell a b w some = record { across = omega (arith, ints); along = omega (arith, ints) }
 
 pub nested_windows : NestedWindows
 nested_windows k level x y h =

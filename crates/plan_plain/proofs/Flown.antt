@@ -11,7 +11,9 @@ use Rattle.plan_model.specs.Rounds.{is_job, claims, is_settled, rounds, round}
 use Rattle.plan_model.specs.declared.events.Event.TheVariants.{Claim}
 use Rattle.plan_plain.specs.SoundRuns.{IsSoundRun}
 use Rattle.plan_plain.specs.Flights.{IsAfter}
-use Rattle.plan_plain.proofs.Ranges.{ranged, ranged_from, down}
+use Rattle.plan_plain.proofs.Ranges.{ranged_from}
+use Rattle.plan_plain_pieces.proofs.Rows.{ranged}
+use Rattle.plan_plain_steps.proofs.Ranges.{down}
 
 pub after_none : (run : Run) → IsSoundRun run → IsAfter 0 run run
 after_none run h = record { sound = h; few = omega arith; k = refl; levels = refl }

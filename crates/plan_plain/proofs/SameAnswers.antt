@@ -7,6 +7,7 @@ use Rattle.clip_regions.specs.declared.region.Region.{Region}
 use Rattle.plan_model.specs.declared.tiles.TileId.{TileId}
 use Rattle.plan_model.specs.declared.events.Answer.{Answer}
 use Rattle.plan_model.specs.declared.events.Answer.TheVariants.{Moved, Job, Idle, Ripe, Busy, Held, HasWork, Kept, Stale, Grown, Waiting, Whole, Frame, Closed, NoFrame}
+use Rattle.clip_regions.proofs.Cells.{corners}
 
 abbrev Same : Answer → Answer → Type 0
 Same a b = ((answers.ghosts).eq a b ≡ true → a ≡ b) × (a ≡ b → (answers.ghosts).eq a b ≡ true)
@@ -19,9 +20,6 @@ same_natural a b = search rules
 
 both_true : (a b : Bool) → a ≡ true → b ≡ true → (a && b) ≡ true
 both_true a b e g = ap₂ (λ (x y : Bool). x && y) e g
-
-abbrev corners : ℤ → ℤ → ℤ → ℤ → Region
-corners west north east south = record { x0 = west; y0 = north; x1 = east; y1 = south }
 
 -- regions are one where their corners are
 abbrev corners_eq : Region → Region → Bool

@@ -8,8 +8,9 @@ use lib.Signed.{lt_z}
 use Rattle.clip_regions.specs.declared.region.Region.{Region}
 use Rattle.clip_regions.specs.Regions.{empty_region, meet, erode, IsWithin}
 use Rattle.plan_model.specs.Actives.{drawable, inner, active_of, actives_by, filled_from}
-use Rattle.plan_plain_pieces.proofs.Rows.{IsOrdered}
-use Rattle.plan_plain_pieces.proofs.Near.{spelled_by, empty_within, meet_within}
+use Rattle.plan_plain_pieces.proofs.Near.{meet_within}
+use Rattle.plan_sound.proofs.Parts.{IsOrdered, spelled_by}
+use Rattle.clip_regions.proofs.Cells.{empty_within}
 
 pub drawable_narrow : (r : Region) → lt_z (r.x1 -ℤ r.x0) (pos 2) ≡ true → drawable r ≡ empty_region
 unfolding drawable

@@ -15,9 +15,10 @@ use Rattle.plan_model.specs.Blocks.{block_cells}
 use Rattle.plan_model.specs.Strips.{piece_in, block_columns, block_rows, pieces}
 use Rattle.plan_model.specs.declared.tiles.Piece.{Piece}
 use Rattle.plan_plain_pieces.specs.Placed.{IsShort}
-use Rattle.plan_plain_pieces.proofs.Numbers.{gap_is}
-use Rattle.plan_plain_pieces.proofs.Rows.{IsOrdered, ordered, row, pieces_none}
+use Rattle.plan_plain_pieces.proofs.Rows.{row, pieces_none}
 use Rattle.plan_plain_pieces.proofs.Near.{meet_within}
+use Rattle.clip_regions.proofs.Sizes.{gap_is}
+use Rattle.plan_sound.proofs.Parts.{IsOrdered, ordered}
 
 -- ---- what is true of each element of each row
 all_rows : {X Y : Type 0} (P : Y → Type 0) (f : X → List Y) (xs : List X) → ((x : X) → All P (f x)) → All P (flat_map f xs)

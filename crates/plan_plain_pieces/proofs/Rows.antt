@@ -28,23 +28,9 @@ pub count_is : (x0 x1 q0 q1 : ℤ) (n : ℕ) → Eighth x0 q0 → Eighth x1 q1 �
 count_is x0 x1 q0 q1 n d e h p =
     gap_from q0 (q1 +ℤ pos 1) n (ascending x0 x1 q0 q1 d e h) p
 
--- the corners of a region that has a cell
-pub record IsOrdered (r : Region) : Type 0 where
-  pub x : r.x0 ≤ℤ r.x1
-  pub y : r.y0 ≤ℤ r.y1
-
-at_most : (a b : ℤ) → lt_z a b ≡ false → b ≤ℤ a
-at_most a b h = grind (arith, ints)
-
 neither : (a b : Bool) → (a || b) ≡ false → (a ≡ false) × (b ≡ false)
 neither true b h = (h, absurd (true≢false h))
 neither false b h = (refl, h)
-
-pub ordered : (r : Region) → is_empty r ≡ false → IsOrdered r
-unfolding is_empty
-ordered r h =
-    let parts = neither (lt_z r.x1 r.x0) (lt_z r.y1 r.y0) h in
-    record { x = at_most r.x1 r.x0 parts.0; y = at_most r.y1 r.y0 parts.1 }
 
 -- one more piece of a row
 pub row_more : {X : Type 0} (f : ℕ → X) (i : ℕ) (base old new : List X) → old ≡ base ++ map f (range_with_len 0 i) → new ≡ old ++ f i ∷ [] → new ≡ base ++ map f (range_with_len 0 (i + 1))

@@ -5,7 +5,8 @@ use Rattle.std.specs.Option.{IfSome}
 use Rattle.std.proofs.lemmas.List.Elements.{filter-append}
 use Rattle.plan_model.specs.Strips.{first_of}
 use Rattle.plan_plain_steps.specs.Found.{or_found}
-use Rattle.plan_plain_steps.proofs.Ranges.{ranged, down}
+use Rattle.plan_plain_steps.proofs.Ranges.{down}
+use Rattle.plan_plain_pieces.proofs.Rows.{ranged}
 
 append_first : (xs : List ℕ) (b : Bool) (x : ℕ) → or_found (first_of xs) b x ≡ first_of (xs ++ cond b (x ∷ []) [])
 append_first [] true x = refl

@@ -5,7 +5,7 @@ use Rattle.clip_regions.specs.declared.region.Region.{Region}
 use Rattle.clip_regions.specs.Regions.{IsWithin}
 use Rattle.plan_model.specs.Sound.{IsInside, IsFilledPart, IsPartOf}
 use Rattle.plan_plain_pieces.specs.Placed.{IsShort}
-use Rattle.plan_plain_steps.proofs.Placed.{inside_near}
+use Rattle.plan_sound.proofs.Placed.{inside_near}
 
 pub inside_short : (window r : Region) → IsShort window → IsInside window r → IsShort r
 inside_short window r w i = record {

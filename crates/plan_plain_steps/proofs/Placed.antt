@@ -1,25 +1,16 @@
 -- Where the windows of the levels lie, and what lies in them.
-use Rattle.std.proofs.Common.{ℕ, ◌-◌, ◌^◌, ◌≤◌, ℤ, subst, sym, inl, inr, arith}
+use Rattle.std.proofs.Common.{ℕ, ◌^◌, ◌≤◌, ℤ, subst, sym, inl, inr, arith}
 use Rattle.std.specs.List.{All}
 use Rattle.std.specs.Option.{IfSome}
 use Rattle.std.proofs.lemmas.Int.{ints}
-use Rattle.std.proofs.Math.Pow.{pow_mono}
 use Rattle.clip_regions.specs.declared.region.Region.{Region}
-use Rattle.clip_regions.specs.Regions.{empty_region, IsWithin}
+use Rattle.clip_regions.specs.Regions.{IsWithin}
 use Rattle.plan_model.specs.Window.{window, half_width}
 use Rattle.plan_model.specs.States.{OpenFrame, Pass, frame_of}
-use Rattle.plan_model.specs.Sound.{IsInside, IsPartOf, IsSoundFrame, IsSoundPass}
+use Rattle.plan_model.specs.Sound.{IsPartOf, IsSoundFrame, IsSoundPass}
 use Rattle.plan_model.specs.declared.events.Work.TheVariants.{Free, Fills, Draws}
 use Rattle.plan_plain_pieces.specs.Placed.{IsShort}
-
-power_least : (a b : ℕ) → a ≤ b → 2 ^ a ≤ 2 ^ b
-power_least a b h = pow_mono h
-
-half_small : (k : ℕ) → k ≤ 8 → half_width k ≤ 127
-unfolding half_width
-half_small k h =
-    let power : 2 ^ (k - 1) ≤ 2 ^ 7 = power_least (k - 1) 7 (omega arith) in
-    omega (arith, power)
+use Rattle.plan_sound.proofs.Placed.{half_small, inside_near, empty_near}
 
 -- a window isn't long
 pub window_short : (k level : ℕ) (x y : ℤ) → k ≤ 8 → IsShort (window k level x y)
@@ -27,31 +18,6 @@ unfolding window
 window_short k level x y h =
     let half : half_width k ≤ 127 = half_small k h in
     record { columns = omega (arith, ints); rows = omega (arith, ints) }
-
--- what lies in a region that lies near the corner does so too
-pub inside_near : (n : ℕ) (window r : Region) → IsWithin n window → IsInside window r → IsWithin n r
-inside_near n window r w h = record {
-  x0_low = omega (arith, ints);
-  x0_high = omega (arith, ints);
-  y0_low = omega (arith, ints);
-  y0_high = omega (arith, ints);
-  x1_low = omega (arith, ints);
-  x1_high = omega (arith, ints);
-  y1_low = omega (arith, ints);
-  y1_high = omega (arith, ints);
-}
-
-empty_near : (n : ℕ) → 1 ≤ n → IsWithin n empty_region
-empty_near n h = record {
-  x0_low = omega (arith, ints);
-  x0_high = omega (arith, ints);
-  y0_low = omega (arith, ints);
-  y0_high = omega (arith, ints);
-  x1_low = omega (arith, ints);
-  x1_high = omega (arith, ints);
-  y1_low = omega (arith, ints);
-  y1_high = omega (arith, ints);
-}
 
 -- so does an even part of it
 pub part_near : (n : ℕ) (window r : Region) → 1 ≤ n → IsWithin n window → IsPartOf window r → IsWithin n r

@@ -1,12 +1,7 @@
 -- One more number of a range, at its end or counted down.
 use Rattle.std.proofs.Common.{◌≡◌, ℕ, suc, ◌+◌, ◌-◌, ◌<◌, ◌≤◌, List, [], ◌∷◌, ◌++◌, flat_map, reverse, ap, sym, ◌∙◌, arith}
 use Rattle.std.specs.List.{range_with_len}
-use Rattle.std.proofs.lemmas.List.FromFn.{map-range_with_len_more}
-use Rattle.std.proofs.lemmas.List.{map-id, flat_map_more, reverse-append}
-
-pub ranged : (i : ℕ) → range_with_len 0 (i + 1) ≡ range_with_len 0 i ++ i ∷ []
-ranged i =
-    sym (map-id (range_with_len 0 (i + 1))) ∙ map-range_with_len_more (λ (n : ℕ). n) 0 i i (omega arith) ∙ ap (λ (xs : List ℕ). xs ++ i ∷ []) (map-id (range_with_len 0 i))
+use Rattle.std.proofs.lemmas.List.{flat_map_more, reverse-append}
 
 counted_down : (l m : ℕ) → reverse (range_with_len l (suc m)) ≡ reverse (range_with_len (l + 1) m) ++ l ∷ []
 counted_down l m = reverse-append (l ∷ []) (range_with_len (l + 1) m)

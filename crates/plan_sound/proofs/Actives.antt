@@ -1,20 +1,14 @@
 -- The active regions of the filled regions of a sound state: as many as these, each empty or in the window of its level.
-use Rattle.std.proofs.Common.{◌≡◌, ℕ, zero, suc, ◌<◌, ◌||◌, pos, ◌-ℤ◌, List, [], ◌∷◌, length, get_or, refl, ap, sym, ◌∙◌, subst, inl, inr, arith}
-use Rattle.std.proofs.lemmas.Bool.{cond_both, true≢false}
-use lib.Signed.{lt_z}
+use Rattle.std.proofs.Common.{◌≡◌, ℕ, zero, suc, ◌<◌, List, [], ◌∷◌, length, get_or, refl, ap, sym, ◌∙◌, subst, inl, inr, arith}
+use Rattle.std.proofs.lemmas.Bool.{true≢false}
 use Rattle.clip_regions.specs.declared.region.Region.{Region}
 use Rattle.clip_regions.specs.Regions.{is_empty, empty_region, meet}
 use Rattle.plan_model.specs.Window.{margin}
-use Rattle.plan_model.specs.Actives.{drawable, inner, active_of, actives_by, filled_from, actives}
+use Rattle.plan_model.specs.Actives.{inner, active_of, actives_by, filled_from, actives}
 use Rattle.plan_model.specs.Laws.{IsEvenOrEmpty, AllEvenOrEmpty, EvenActives}
 use Rattle.plan_model.specs.Sound.{IsFilledPart, IsPartOf}
 use Rattle.plan_sound.proofs.Parts.{meet_in, inside_some}
-
--- what is true of the empty region and of r is true of what can be drawn of r
-drawable_by : (P : Region → Type 0) (r : Region) → P empty_region → P r → P (drawable r)
-unfolding drawable
-drawable_by P r at_empty at_region =
-    cond_both (lt_z (r.x1 -ℤ r.x0) (pos 2) || lt_z (r.y1 -ℤ r.y0) (pos 2)) empty_region r P (λ e. at_empty) (λ e. at_region)
+use Rattle.plan_model.proofs.ActiveLaws.{drawable_by}
 
 active_in : (window : Region) (e : ℕ) (filled : Region) (rest : List Region) → IsFilledPart window filled → IsFilledPart window (active_of e filled rest)
 active_in window e filled [] h = drawable_by (IsFilledPart window) filled (inl refl) h

@@ -1,10 +1,10 @@
 -- What becomes of the filled regions of windows: strips, growth and moves.
-use Rattle.std.proofs.Common.{◌≡◌, Bool, true, false, ◌&&◌, ◌⊎◌, ℤ, pos, ◌+ℤ◌, ◌-ℤ◌, ◌≤ℤ◌, List, [], ◌∷◌, filter, refl, ap, sym, ◌∙◌, subst, inl, inr, arith}
+use Rattle.std.proofs.Common.{◌≡◌, Bool, true, false, ◌⊎◌, ℤ, pos, ◌+ℤ◌, ◌-ℤ◌, ◌≤ℤ◌, List, [], ◌∷◌, filter, refl, ap, sym, ◌∙◌, subst, inl, inr, arith}
 use Rattle.std.specs.Option.{IfSome}
 use Rattle.std.specs.Int.{int_min, int_max}
 use Rattle.std.proofs.lemmas.Int.{ints, clamps}
 use Rattle.std.proofs.lemmas.Bool.{and_parts, or_from, or_parts, not-true, cond_both}
-use lib.Signed.{lt_z, le_z}
+use lib.Signed.{lt_z}
 use Rattle.clip_regions.specs.declared.region.Region.{Region}
 use Rattle.clip_regions.specs.FloorDivision.{floor_rem}
 use Rattle.clip_regions.specs.Regions.{is_empty, empty_region, spelled, meet, holds, HasEvenCorners}
@@ -12,23 +12,22 @@ use Rattle.plan_model.specs.Strips.{first_of, has_cell, left_of, right_of, above
 use Rattle.plan_model.specs.States.{same_region}
 use Rattle.plan_model.specs.Sound.{IsInside, IsFilledPart, IsEvenInside, IsPartOf}
 use Rattle.plan_sound.specs.Laws.{StripsAreInside}
+use Rattle.clip_regions.proofs.Cells.{empty_is_empty, both, same_corners, Within, within}
+use Rattle.plan_model.proofs.ActiveLaws.{both_even}
 
 -- ---- regions that have a cell
 -- the corners are in order
-record IsOrdered (r : Region) : Type 0 where
-  x : r.x0 ≤ℤ r.x1
-  y : r.y0 ≤ℤ r.y1
+pub record IsOrdered (r : Region) : Type 0 where
+  pub x : r.x0 ≤ℤ r.x1
+  pub y : r.y0 ≤ℤ r.y1
 
-not_less : (a b : ℤ) → b ≤ℤ a → lt_z a b ≡ false
+pub not_less : (a b : ℤ) → b ≤ℤ a → lt_z a b ≡ false
 not_less a b h = grind (arith, ints)
 
 at_most : (a b : ℤ) → lt_z a b ≡ false → b ≤ℤ a
 at_most a b h = omega (arith, ints)
 
-tested_le : (a b : ℤ) → le_z a b ≡ true → a ≤ℤ b
-tested_le a b e = omega (arith, ints)
-
-ordered : (r : Region) → is_empty r ≡ false → IsOrdered r
+pub ordered : (r : Region) → is_empty r ≡ false → IsOrdered r
 unfolding is_empty
 ordered r e =
     let parts : (lt_z r.x1 r.x0 ≡ false) × (lt_z r.y1 r.y0 ≡ false) = or_parts (lt_z r.x1 r.x0) (lt_z r.y1 r.y0) e in
@@ -39,16 +38,12 @@ unfolding is_empty
 inside_some window r h =
     or_from (lt_z r.x1 r.x0) (lt_z r.y1 r.y0) (not_less r.x1 r.x0 h.columns) (not_less r.y1 r.y0 h.rows)
 
-empty_is_empty : is_empty empty_region ≡ true
-unfolding is_empty
-empty_is_empty = refl
-
 with_cell : (r : Region) → has_cell r ≡ true → IsOrdered r
 unfolding has_cell
 with_cell r e = ordered r (not-true (is_empty r) e)
 
 -- ---- the first strip
-left_inside : (filled window : Region) → IsInside window filled → IsOrdered (left_of filled window) → IsInside window (left_of filled window)
+pub left_inside : (filled window : Region) → IsInside window filled → IsOrdered (left_of filled window) → IsInside window (left_of filled window)
 unfolding left_of
 left_inside filled window h some = record {
   west = omega (arith, ints);
@@ -59,7 +54,7 @@ left_inside filled window h some = record {
   south = h.south;
 }
 
-right_inside : (filled window : Region) → IsInside window filled → IsOrdered (right_of filled window) → IsInside window (right_of filled window)
+pub right_inside : (filled window : Region) → IsInside window filled → IsOrdered (right_of filled window) → IsInside window (right_of filled window)
 unfolding right_of
 right_inside filled window h some = record {
   west = omega (arith, ints);
@@ -70,7 +65,7 @@ right_inside filled window h some = record {
   south = h.south;
 }
 
-above_inside : (filled window : Region) → IsInside window filled → IsOrdered (above filled window) → IsInside window (above filled window)
+pub above_inside : (filled window : Region) → IsInside window filled → IsOrdered (above filled window) → IsInside window (above filled window)
 unfolding above
 above_inside filled window h some = record {
   west = omega (arith, ints);
@@ -81,7 +76,7 @@ above_inside filled window h some = record {
   south = omega (arith, ints);
 }
 
-below_inside : (filled window : Region) → IsInside window filled → IsOrdered (below filled window) → IsInside window (below filled window)
+pub below_inside : (filled window : Region) → IsInside window filled → IsOrdered (below filled window) → IsInside window (below filled window)
 unfolding below
 below_inside filled window h some = record {
   west = omega (arith, ints);
@@ -97,7 +92,7 @@ first_passing : {X : Type 0} (p : X → Bool) (P : X → Type 0) (x : X) (xs : L
 first_passing p P x xs here rest =
     cond_both (p x) (x ∷ filter p xs) (filter p xs) (λ ys. IfSome (first_of ys) P) (λ e. here e) (λ e. rest)
 
-around_inside : (filled window : Region) → IsInside window filled → IfSome (first_of (filter has_cell (left_of filled window ∷ right_of filled window ∷ above filled window ∷ below filled window ∷ []))) (IsInside window)
+pub around_inside : (filled window : Region) → IsInside window filled → IfSome (first_of (filter has_cell (left_of filled window ∷ right_of filled window ∷ above filled window ∷ below filled window ∷ []))) (IsInside window)
 around_inside filled window h =
     first_passing has_cell (IsInside window) (left_of filled window) (right_of filled window ∷ above filled window ∷ below filled window ∷ []) (λ e. left_inside filled window h (with_cell (left_of filled window) e)) (first_passing has_cell (IsInside window) (right_of filled window) (above filled window ∷ below filled window ∷ []) (λ e. right_inside filled window h (with_cell (right_of filled window) e)) (first_passing has_cell (IsInside window) (above filled window) (below filled window ∷ []) (λ e. above_inside filled window h (with_cell (above filled window) e)) (first_passing has_cell (IsInside window) (below filled window) [] (λ e. below_inside filled window h (with_cell (below filled window) e)) tt)))
 
@@ -118,7 +113,7 @@ strip_inside filled window (inr h) whole =
     subst (λ rs. IfSome (first_of rs) (IsInside window)) (sym (strips_around filled window (inside_some window filled h))) (around_inside filled window h)
 
 -- ---- growth
-span : Region → Region → Region
+unfoldable pub span : Region → Region → Region
 span a b = record { x0 = int_min a.x0 b.x0; y0 = int_min a.y0 b.y0; x1 = int_max a.x1 b.x1; y1 = int_max a.y1 b.y1 }
 
 hull_right : (a b : Region) → is_empty a ≡ true → hull a b ≡ b
@@ -129,7 +124,7 @@ hull_both : (a b : Region) → is_empty a ≡ false → is_empty b ≡ false →
 unfolding hull span
 hull_both a b h g = rw (h, g)
 
-span_inside : (window a b : Region) → IsInside window a → IsInside window b → IsInside window (span a b)
+pub span_inside : (window a b : Region) → IsInside window a → IsInside window b → IsInside window (span a b)
 unfolding span
 span_inside window a b h g = record {
   west = omega (arith, ints, clamps);
@@ -233,15 +228,12 @@ strip_grown filled window (inr h) some whole =
 
 -- ---- moves
 -- what is true of the empty region and of r, where r has a cell, is true of r as it is spelled
-spelled_by : (P : Region → Type 0) (r : Region) → P empty_region → (IsOrdered r → P r) → P (spelled r)
+pub spelled_by : (P : Region → Type 0) (r : Region) → P empty_region → (IsOrdered r → P r) → P (spelled r)
 unfolding spelled
 spelled_by P r at_empty at_other =
     cond_both (is_empty r) empty_region r P (λ e. at_empty) (λ e. at_other (ordered r e))
 
-both : Region → Region → Region
-both a b = record { x0 = int_max a.x0 b.x0; y0 = int_max a.y0 b.y0; x1 = int_min a.x1 b.x1; y1 = int_min a.y1 b.y1 }
-
-meet_by : (P : Region → Type 0) (a b : Region) → P empty_region → (IsOrdered (both a b) → P (both a b)) → P (meet a b)
+pub meet_by : (P : Region → Type 0) (a b : Region) → P empty_region → (IsOrdered (both a b) → P (both a b)) → P (meet a b)
 unfolding meet both
 meet_by P a b at_empty at_other = spelled_by P (both a b) at_empty at_other
 
@@ -258,15 +250,6 @@ both_inside a window some =
       rows = along;
       south = omega (arith, ints, clamps);
     }
-
-both_even : (a b : Region) → HasEvenCorners a → HasEvenCorners b → HasEvenCorners (both a b)
-unfolding both
-both_even a b p q = record {
-  x0 = even_either (int_max a.x0 b.x0) a.x0 b.x0 p.x0 q.x0 (greater_either a.x0 b.x0);
-  y0 = even_either (int_max a.y0 b.y0) a.y0 b.y0 p.y0 q.y0 (greater_either a.y0 b.y0);
-  x1 = even_either (int_min a.x1 b.x1) a.x1 b.x1 p.x1 q.x1 (lesser_either a.x1 b.x1);
-  y1 = even_either (int_min a.y1 b.y1) a.y1 b.y1 p.y1 q.y1 (lesser_either a.y1 b.y1);
-}
 
 both_none : (b : Region) → IsOrdered (both empty_region b) → ⊥
 unfolding both
@@ -301,29 +284,6 @@ meet_in window a b (inl e) =
     subst (λ (r : Region). IsFilledPart window (meet r b)) (sym e) (meet_by (IsFilledPart window) empty_region b (inl refl) (λ (some : IsOrdered (both empty_region b)). absurd (both_none b some)))
 meet_in window a b (inr h) =
     meet_by (IsFilledPart window) a b (inl refl) (λ (some : IsOrdered (both a b)). inr (both_in window a b h some))
-
--- the corners of b lie within those of a
-record Within (a b : Region) : Type 0 where
-  west : a.x0 ≤ℤ b.x0
-  east : b.x1 ≤ℤ a.x1
-  north : a.y0 ≤ℤ b.y0
-  south : b.y1 ≤ℤ a.y1
-
-within : (a b : Region) → holds a b ≡ true → is_empty b ≡ false → Within a b
-unfolding holds
-within a b e some =
-    let tests : ((le_z a.x0 b.x0 && le_z b.x1 a.x1) && (le_z a.y0 b.y0 && le_z b.y1 a.y1)) ≡ true = rw some at e in
-    let parts : ((le_z a.x0 b.x0 && le_z b.x1 a.x1) ≡ true) × ((le_z a.y0 b.y0 && le_z b.y1 a.y1) ≡ true) = and_parts (le_z a.x0 b.x0 && le_z b.x1 a.x1) (le_z a.y0 b.y0 && le_z b.y1 a.y1) tests in
-    let across : (le_z a.x0 b.x0 ≡ true) × (le_z b.x1 a.x1 ≡ true) = and_parts (le_z a.x0 b.x0) (le_z b.x1 a.x1) parts.0 in
-    let along : (le_z a.y0 b.y0 ≡ true) × (le_z b.y1 a.y1 ≡ true) = and_parts (le_z a.y0 b.y0) (le_z b.y1 a.y1) parts.1 in
-    record { west = tested_le a.x0 b.x0 across.0; east = tested_le b.x1 a.x1 across.1; north = tested_le a.y0 b.y0 along.0; south = tested_le b.y1 a.y1 along.1 }
-
-abbrev corners : ℤ → ℤ → ℤ → ℤ → Region
-corners west north east south = record { x0 = west; y0 = north; x1 = east; y1 = south }
-
-same_corners : (r s : Region) → r.x0 ≡ s.x0 → r.y0 ≡ s.y0 → r.x1 ≡ s.x1 → r.y1 ≡ s.y1 → r ≡ s
-same_corners r s a b c d =
-    ap (λ (v : ℤ). corners v r.y0 r.x1 r.y1) a ∙ ap (λ (v : ℤ). corners s.x0 v r.x1 r.y1) b ∙ ap (λ (v : ℤ). corners s.x0 s.y0 v r.y1) c ∙ ap (λ (v : ℤ). corners s.x0 s.y0 s.x1 v) d
 
 each_within : (a b : Region) → Within a b → Within b a → a ≡ b
 each_within a b h g =

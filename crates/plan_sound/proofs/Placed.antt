@@ -36,7 +36,7 @@ centre_near level v h =
 power_least : (a b : ℕ) → a ≤ b → 2 ^ a ≤ 2 ^ b
 power_least a b h = pow_mono h
 
-half_small : (k : ℕ) → k ≤ 8 → half_width k ≤ 127
+pub half_small : (k : ℕ) → k ≤ 8 → half_width k ≤ 127
 unfolding half_width
 half_small k h =
     let power : 2 ^ (k - 1) ≤ 2 ^ 7 = power_least (k - 1) 7 (omega arith) in

@@ -3,7 +3,7 @@ use Rattle.std.proofs.Common.{◌≡◌, ℕ, ◌+◌, ◌^◌, ◌<◌, true, f
 use Rattle.std.proofs.lemmas.Int.{ints}
 use Rattle.std.proofs.lemmas.Bool.{true≢false}
 use Rattle.clip_regions.specs.declared.region.Region.{Region}
-use Rattle.clip_regions.specs.Regions.{is_empty, empty_region, IsWithin}
+use Rattle.clip_regions.specs.Regions.{is_empty, IsWithin}
 use Rattle.mesh_model.specs.declared.shapes.PartKind.TheVariants.{Whole}
 use Rattle.mesh_model.specs.Parts.{PartTriangles, squares_between}
 use Rattle.mesh_laws.specs.declared.ring.Ring.{Ring}
@@ -12,6 +12,7 @@ use Rattle.mesh_laws.specs.Conditions.{IsCut, IsRing}
 use Rattle.ring_mesh.specs.Squares.{HasSquares}
 use Rattle.ring_mesh.specs.Added.{HasBlock, triangles_of, north_block, west_block, east_block, south_block, block_part, parts_around}
 use Rattle.ring_mesh.proofs.Added.{few_front, few_back}
+use Rattle.clip_regions.proofs.Cells.{empty_is_empty}
 
 pub block_squares : (r block : Region) → HasBlock r block → HasSquares r (squares_between block.x0 block.x1 block.y0 block.y1)
 unfolding squares_between
@@ -91,13 +92,6 @@ blocks active gap near cut =
 
 pub whole_block : (active : Region) → IsWithin (2 ^ 24) active → HasBlock active active
 whole_block active near = record { near = near; placed = near; west = omega (arith, ints); east = omega (arith, ints); north = omega (arith, ints); south = omega (arith, ints) }
-
-empty_is_empty : is_empty empty_region ≡ true
-unfolding is_empty
-empty_is_empty = refl'
-  where
-    refl' : true ≡ true
-    refl' = λ t. true
 
 -- a hole that isn't empty lies in the region
 pub cut_of : (ring : Ring) → IsRing ring → is_empty ring.hole ≡ false → IsCut ring.active ring.hole

@@ -7,8 +7,8 @@ use Rattle.clip_regions.specs.declared.region.Region.{Region}
 use Rattle.clip_regions.specs.Regions.{columns, rows, IsWithin}
 use Rattle.mesh_laws.specs.Conditions.{IsCell, IsCut, HasHole}
 use Rattle.ring_mesh.specs.Listed.{HasRun}
-use Rattle.ring_mesh.proofs.Gaps.{gap_by, gap_holds, way_within}
 use mir.Val.{to_z, of_z}
+use Rattle.clip_regions.proofs.Gaps.{gap_by, gap_holds, way_within}
 
 -- row j is one of the region's
 pub record IsRow (r : Region) (j : ℤ) : Type 0 where

@@ -1,4 +1,3 @@
-pub mod Gaps
 pub mod Lists
 pub mod Boxes
 pub mod Wider

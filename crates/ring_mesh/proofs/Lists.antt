@@ -1,11 +1,12 @@
 -- How lists over a range grow, and lists over the cells of a region.
 use Rattle.std.proofs.Common.{◌≡◌, ℕ, ◌+◌, List, [], ◌∷◌, ◌++◌, ℤ, pos, ◌+ℤ◌, map, refl, ap, sym, ◌∙◌, append_assoc, arith}
 use Rattle.std.specs.List.{flat_map, range_with_len}
-use Rattle.std.proofs.lemmas.List.{append-nil, map-append}
+use Rattle.std.proofs.lemmas.List.{append-nil}
 use Rattle.std.proofs.lemmas.List.FromFn.{map-range_with_len_more}
 use Rattle.std.proofs.lemmas.List.Concat.{flat_map-append}
 use Rattle.clip_regions.specs.declared.region.Region.{Region}
 use Rattle.clip_regions.specs.Regions.{columns, rows, cells, numbers_from}
+use Rattle.mesh_model.proofs.Ranges.{flat_map_of_map, map_of_flat_map, flat_map_of_flat_map}
 
 map_id : (xs : List ℕ) → map (λ x. x) xs ≡ xs
 map_id [] = refl
@@ -30,14 +31,6 @@ flat_map_more f base now next n so_far appended =
     let last : flat_map f (range_with_len 0 (n + 1)) ≡ flat_map f (range_with_len 0 n) ++ f n = ap (flat_map f) (range_more n) ∙ flat_map-append f (range_with_len 0 n) (n ∷ []) ∙ ap (λ piece. flat_map f (range_with_len 0 n) ++ piece) (append-nil (f n)) in
     appended ∙ ap (λ xs. xs ++ f n) so_far ∙ append_assoc base (flat_map f (range_with_len 0 n)) (f n) ∙ ap (λ xs. base ++ xs) (sym last)
 
-flat_map_of_map : {A B C : Type 0} (f : B → List C) (g : A → B) (xs : List A) → flat_map f (map g xs) ≡ flat_map (λ x. f (g x)) xs
-flat_map_of_map f g [] = refl
-flat_map_of_map f g (x ∷ xs) = ap (λ rest. f (g x) ++ rest) (flat_map_of_map f g xs)
-
-flat_map_of_flat_map : {A B C : Type 0} (f : B → List C) (g : A → List B) (xs : List A) → flat_map f (flat_map g xs) ≡ flat_map (λ x. flat_map f (g x)) xs
-flat_map_of_flat_map f g [] = refl
-flat_map_of_flat_map f g (x ∷ xs) = flat_map-append f (g x) (flat_map g xs) ∙ ap (λ rest. flat_map f (g x) ++ rest) (flat_map_of_flat_map f g xs)
-
 -- a list for each cell of a region, row by row
 pub flat_map_cells : {A : Type 0} (f : ℤ × ℤ → List A) (r : Region) →
     flat_map f (cells r) ≡ flat_map (λ v. flat_map (λ u. f (r.x0 +ℤ pos u, r.y0 +ℤ pos v)) (range_with_len 0 (columns r))) (range_with_len 0 (rows r))
@@ -48,14 +41,6 @@ flat_map_cells f r =
   where
     row : (v : ℕ) → flat_map f (map (λ i. (i, r.y0 +ℤ pos v)) (numbers_from r.x0 (columns r))) ≡ flat_map (λ u. f (r.x0 +ℤ pos u, r.y0 +ℤ pos v)) (range_with_len 0 (columns r))
     row v = flat_map_of_map f (λ i. (i, r.y0 +ℤ pos v)) (numbers_from r.x0 (columns r)) ∙ flat_map_of_map (λ i. f (i, r.y0 +ℤ pos v)) (λ u. r.x0 +ℤ pos u) (range_with_len 0 (columns r))
-
-pub map_of_map : {A B C : Type 0} (f : B → C) (g : A → B) (xs : List A) → map f (map g xs) ≡ map (λ x. f (g x)) xs
-map_of_map f g [] = refl
-map_of_map f g (x ∷ xs) = ap (λ rest. f (g x) ∷ rest) (map_of_map f g xs)
-
-map_of_flat_map : {A B C : Type 0} (f : B → C) (g : A → List B) (xs : List A) → map f (flat_map g xs) ≡ flat_map (λ x. map f (g x)) xs
-map_of_flat_map f g [] = refl
-map_of_flat_map f g (x ∷ xs) = map-append f (g x) (flat_map g xs) ∙ ap (λ rest. map f (g x) ++ rest) (map_of_flat_map f g xs)
 
 -- the images of rows, row by row
 pub map_of_rows : {B C : Type 0} (f : B → C) (g : ℤ → List B) (a : ℤ) (n : ℕ) →

@@ -14,7 +14,8 @@ use Rattle.mesh_laws.specs.Rings.{no_ring, next_ring, ring_row}
 use Rattle.mesh_laws.specs.Conditions.{IsBefore}
 use Rattle.mesh_laws.specs.Laws.{RingRows}
 use Rattle.ring_mesh.specs.Listed.{vertices_at, ring_cells, IsListed}
-use Rattle.ring_mesh.proofs.Lists.{map_of_map, map_of_rows}
+use Rattle.ring_mesh.proofs.Lists.{map_of_rows}
+use Rattle.mesh_model.proofs.Ranges.{map_of_map}
 
 pub two_runs : (terrain : Terrain) (k : ℕ) (actives : List Region) (level : ℕ) (xs ys : List (ℤ × ℤ)) →
     vertices_at terrain k actives level (xs ++ ys) ≡ vertices_at terrain k actives level xs ++ vertices_at terrain k actives level ys

@@ -1,5 +1,5 @@
 -- The places along a side as the images of a range of steps.
-use Rattle.std.proofs.Common.{◌≡◌, ℕ, nat_abs, ◌+◌, ◌*◌, ◌/◌, ◌^◌, ◌≤◌, true, false, ℤ, pos, negsuc, neg_ℤ, ◌+ℤ◌, ◌-ℤ◌, ◌*ℤ◌, ◌≤ℤ◌, map, reverse, refl, ap, sym, ◌∙◌, ◌⊎◌, inl, inr, w32, arith}
+use Rattle.std.proofs.Common.{◌≡◌, ℕ, nat_abs, ◌+◌, ◌*◌, ◌/◌, ◌^◌, ◌≤◌, true, false, ℤ, pos, negsuc, neg_ℤ, ◌+ℤ◌, ◌-ℤ◌, ◌≤ℤ◌, map, reverse, refl, ap, sym, ◌∙◌, ◌⊎◌, inl, inr, w32, arith}
 use Rattle.std.specs.List.{range_with_len}
 use Rattle.std.specs.Int.{int_gap}
 use Rattle.std.proofs.lemmas.Int.{ints}
@@ -8,7 +8,7 @@ use Rattle.std.proofs.lemmas.Simd.{map-map}
 use lib.Signed.{lt_z}
 use mir.Val.{to_z, of_z}
 use Rattle.clip_regions.specs.declared.region.Region.{Region}
-use Rattle.clip_regions.specs.FloorDivision.{floor_div, floor_rem}
+use Rattle.clip_regions.specs.FloorDivision.{floor_rem}
 use Rattle.clip_regions.specs.Regions.{is_empty, columns, rows, IsWithin}
 use Rattle.mesh_model.specs.Nested.{border_count}
 use Rattle.mesh_model.specs.Parts.{stitches_along}
@@ -20,6 +20,8 @@ use Rattle.stitches.specs.declared.sides.Side.{Side}
 use Rattle.stitches.specs.declared.sides.Side.TheVariants.{North, East, South, West}
 use Rattle.stitches.specs.Sides.{IsBorder, steps_along, place_after, stitch_after, walk_along}
 use Rattle.stitches.proofs.Walks.{stitches_in_range, turned}
+use Rattle.clip_regions.proofs.Gaps.{size_is}
+use Rattle.mesh_model.proofs.Rectangles.{half_and_rest}
 
 -- the corners of a region that has a cell are in order
 pub record InOrder (r : Region) : Type 0 where
@@ -51,11 +53,6 @@ span a b h =
 -- counted from the other end
 back : (a b : ℤ) (u w : ℕ) → a ≤ℤ b → u + w + 1 ≡ int_gap a b + 1 + 0 → a +ℤ pos u ≡ b -ℤ pos w
 back a b u w h e = let short = way a b h in omega (arith, ints)
-
--- what the code computes of it
-size_is : (z : ℤ) → pos 0 ≤ℤ z → pos (nat_abs z) ≡ z
-size_is (pos n) h = refl
-size_is (negsuc n) h = absurd (omega (arith, ints))
 
 pub way_is : (a b d : ℤ) → d ≡ b -ℤ a → a ≤ℤ b → nat_abs d ≡ int_gap a b
 way_is a b d e h =
@@ -124,12 +121,6 @@ pub west_cell : (r : Region) (u : ℕ) → IsWithin (2 ^ 24) r → is_empty r �
 west_cell r u near some walked =
     let o = in_order r some in
     cell_on r (to_z w32 (of_z w32 r.x0)) (to_z w32 (of_z w32 (to_z w32 (of_z w32 r.y1) -ℤ to_z w32 u))) (on_first r.x0 r.x1 o.across near.x0_low near.x1_high) (on_back r.y0 r.y1 u o.along near.y0_low near.y1_high walked)
-
--- between even numbers the way is even
-half_and_rest : (z : ℤ) → z ≡ pos 2 *ℤ floor_div z 2 +ℤ pos (floor_rem z 2)
-unfolding floor_div floor_rem
-half_and_rest (pos n) = omega (arith, ints)
-half_and_rest (negsuc n) = omega (arith, ints)
 
 even_way : (a b : ℤ) → floor_rem a 2 ≡ 0 → floor_rem b 2 ≡ 0 → a ≤ℤ b → 2 * (int_gap a b / 2) ≡ int_gap a b
 even_way a b ea eb h =

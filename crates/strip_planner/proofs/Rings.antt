@@ -1,37 +1,19 @@
 -- Blocks of an axis among the tiles of a torus, going round.
-use Rattle.std.proofs.Common.{◌≡◌, ℕ, zero, suc, ◌+◌, ◌-◌, ◌*◌, ◌<◌, ◌≤◌, Bool, true, false, ◌||◌, ◌==◌, ℤ, pos, negsuc, ◌+ℤ◌, ◌*ℤ◌, ◌≤ℤ◌, ◌<ℤ◌, map, refl, ap, sym, ◌∙◌, subst, inl, inr, arith, eq-eqb}
+use Rattle.std.proofs.Common.{◌≡◌, ℕ, zero, suc, ◌+◌, ◌-◌, ◌*◌, ◌<◌, ◌≤◌, Bool, true, false, ◌||◌, ◌==◌, ℤ, pos, ◌+ℤ◌, ◌*ℤ◌, ◌≤ℤ◌, ◌<ℤ◌, map, ap, sym, ◌∙◌, subst, inl, inr, arith, eq-eqb}
 use Rattle.std.specs.Prelude.{nat_lt}
 use Rattle.std.specs.List.{range_with_len, list_any}
 use Rattle.std.proofs.lemmas.Int.{ints, by_lt_z}
 use Rattle.std.proofs.lemmas.Bool.{cases_Bool, or_left, or_right, true≢false, false_from_ne_true, eqb-true}
 use Rattle.std.proofs.lemmas.Bool.Decides.{nat_tests}
-use Rattle.std.proofs.Math.Nat.{mul-le-mul_left}
 use borrow.Author.Differences.{up, down}
 use Rattle.clip_regions.specs.FloorDivision.{floor_div, floor_rem}
 use Rattle.clip_regions.specs.Regions.{numbers_from}
 use Rattle.strip_planner.specs.Met.{has_place, ahead}
+use Rattle.clip_regions.proofs.Cells.{same_test}
+use Rattle.clip_regions.proofs.Quotients.{rem_below, quotient_and_rest}
+use Rattle.plan_model.proofs.Quotients.{same_quotient}
 
 -- ---- quotient and remainder
-pub rem_below : (a : ℤ) (d : ℕ) → 0 < d → floor_rem a d < d
-unfolding floor_rem
-rem_below (pos n) d h = omega arith
-rem_below (negsuc n) d h = omega arith
-
-pub quotient_and_rest : (a : ℤ) (d : ℕ) → 0 < d → a ≡ pos d *ℤ floor_div a d +ℤ pos (floor_rem a d)
-unfolding floor_div floor_rem
-quotient_and_rest (pos n) d h = omega (arith, ints)
-quotient_and_rest (negsuc n) d h = omega (arith, ints)
-
-order_times : (a b : ℤ) (m : ℕ) → a <ℤ b → (pos m *ℤ a +ℤ pos m) ≤ℤ (pos m *ℤ b)
-order_times a b m h =
-    let gap : up a + down b + 1 ≤ up b + down a = omega (arith, ints) in
-    let scaled : m * (up a + down b + 1) ≤ m * (up b + down a) = mul-le-mul_left m gap in
-    omega (arith, ints, scaled)
-
-same_quotient : (q q' : ℤ) (m : ℕ) → (pos m *ℤ q) <ℤ (pos m *ℤ q' +ℤ pos m) → (pos m *ℤ q') <ℤ (pos m *ℤ q +ℤ pos m) → q ≡ q'
-same_quotient q q' m h k =
-    by_lt_z q q' (λ (l : q <ℤ q'). let apart : (pos m *ℤ q +ℤ pos m) ≤ℤ (pos m *ℤ q') = order_times q q' m l in absurd (omega (arith, ints))) (λ (g : q' ≤ℤ q). by_lt_z q' q (λ (l : q' <ℤ q). let apart : (pos m *ℤ q' +ℤ pos m) ≤ℤ (pos m *ℤ q) = order_times q' q m l in absurd (omega (arith, ints))) (λ (e : q ≤ℤ q'). omega (arith, ints)))
-
 -- a remainder is the one number below the divisor that a multiple of it is short of
 pub rem_is : (z q : ℤ) (d r : ℕ) → 0 < d → r < d → z ≡ pos d *ℤ q +ℤ pos r → floor_rem z d ≡ r
 rem_is z q d r some small e =
@@ -128,15 +110,10 @@ finds p f a (suc n) m low high t =
     by_order m a (λ (h : m ≤ a). let same : m ≡ a = omega arith in or_left (p (f a)) (list_any p (map f (range_with_len (a + 1) n))) (subst (λ (k : ℕ). p (f k) ≡ true) same t)) (λ (h : a < m). or_right (p (f a)) (list_any p (map f (range_with_len (a + 1) n))) (finds p f (a + 1) n m (omega arith) (omega arith) t))
 
 -- ---- the blocks that have a place among the tiles
-same_test : (a b : Bool) → (a ≡ true → b ≡ true) → (b ≡ true → a ≡ true) → a ≡ b
-same_test true b f g = sym (f refl)
-same_test false true f g = g refl
-same_test false false f g = refl
-
-less_is : (a b : ℕ) → nat_lt a b ≡ true → a < b
+pub less_is : (a b : ℕ) → nat_lt a b ≡ true → a < b
 less_is a b h = grind (arith, nat_tests)
 
-less_of : (a b : ℕ) → a < b → nat_lt a b ≡ true
+pub less_of : (a b : ℕ) → a < b → nat_lt a b ≡ true
 less_of a b h = grind (arith, nat_tests)
 
 pub has_place_at : (side : ℕ) (first : ℤ) (n t : ℕ) → 0 < side → t < side → has_place side first n t ≡ nat_lt (ahead side (floor_rem first side) t) n

@@ -1,7 +1,6 @@
 -- Counts that are changed one tile after another.
-use Rattle.std.proofs.Common.{◌≡◌, ℕ, ◌+◌, ◌*◌, ◌<◌, ◌≤◌, Bool, false, cond, pos, ◌≤ℤ◌, ◌<ℤ◌, List, [], ◌∷◌, ◌++◌, length, get_or, fold, flat_map, Option, Some, None, refl, ap, sym, ◌∙◌, inl, inr, arith, zero-add}
+use Rattle.std.proofs.Common.{◌≡◌, ℕ, ◌+◌, ◌*◌, ◌<◌, ◌≤◌, Bool, false, cond, List, [], ◌∷◌, ◌++◌, length, get_or, fold, flat_map, Option, Some, None, refl, ap, sym, ◌∙◌, inl, inr, arith, zero-add}
 use Rattle.std.specs.List.{count_by}
-use Rattle.std.proofs.lemmas.Int.{ints, by_lt_z}
 use Rattle.std.proofs.lemmas.Bool.{cases_Bool}
 use Rattle.std.proofs.lemmas.List.Sums.{sum_by-append}
 use Rattle.std.proofs.lemmas.Nat.{mul-add-lt, mod-mul-add, div-mul-add}
@@ -13,10 +12,6 @@ use Rattle.plan_model.specs.declared.tiles.TileId.{TileId}
 use Rattle.tile_pins.specs.declared.pin.Pin.{Pin}
 use Rattle.tile_pins.specs.Pinned.{frame_on, is_on, first_frame}
 use Rattle.tile_pins.specs.Counts.{numbered, changed_by, AreCounted}
-
-pub by_order : {P : Type 0} (a b : ℕ) → (a ≤ b → P) → (b < a → P) → P
-by_order a b f g =
-    by_lt_z (pos b) (pos a) (λ (h : pos b <ℤ pos a). g (omega (arith, ints))) (λ (h : pos a ≤ℤ pos b). f (omega (arith, ints)))
 
 -- ---- one more tile at each turn
 abbrev met : ℕ → Region → ℕ → Bool

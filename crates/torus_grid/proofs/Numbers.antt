@@ -1,29 +1,8 @@
 -- Signed numbers that went to their bits and back, order of natural numbers, and remainders.
-use Rattle.std.proofs.Common.{◌≡◌, ℕ, ◌+◌, ◌*◌, ◌/◌, ◌%◌, ◌<◌, ◌≤◌, ℤ, pos, negsuc, ◌+ℤ◌, ◌-ℤ◌, ◌*ℤ◌, ◌≤ℤ◌, ◌<ℤ◌, ap, sym, arith}
-use Rattle.std.proofs.lemmas.Int.{to_z-of_z, ints, by_lt_z}
-use Rattle.std.proofs.Math.Nat.{div-div-eq-div-mul}
-use Rattle.std.specs.Int.{int_gap}
-use mir.Syntax.{w32}
-use mir.Val.{SFits, of_z, to_z}
+use Rattle.std.proofs.Common.{◌≡◌, ℕ, ◌+◌, ◌*◌, ◌/◌, ◌%◌, ◌<◌, ℤ, pos, negsuc, ◌+ℤ◌, ◌*ℤ◌, arith}
+use Rattle.std.proofs.lemmas.Int.{ints}
 use Rattle.clip_regions.specs.FloorDivision.{floor_div, floor_rem}
-
-pub read_back : (z : ℤ) → SFits w32 z → to_z w32 (of_z w32 z) ≡ z
-read_back z fits = to_z-of_z w32 z fits
-
-pub gap_is : (a b : ℤ) → a ≤ℤ b → pos (int_gap a b) ≡ b -ℤ a
-gap_is (pos a) (pos b) h = omega (arith, ints)
-gap_is (pos a) (negsuc b) h = absurd (omega (arith, ints))
-gap_is (negsuc a) (pos b) h = omega (arith, ints)
-gap_is (negsuc a) (negsuc b) h = omega (arith, ints)
-
-pub gap_from : (a b : ℤ) (n : ℕ) → a ≤ℤ b → pos n ≡ b -ℤ a → n ≡ int_gap a b
-gap_from a b n h e =
-    let g : pos (int_gap a b) ≡ b -ℤ a = gap_is a b h in
-    omega (arith, ints)
-
-pub by_order : {P : Type 0} (a b : ℕ) → (a ≤ b → P) → (b < a → P) → P
-by_order a b f g =
-    by_lt_z (pos b) (pos a) (λ (h : pos b <ℤ pos a). g (omega (arith, ints))) (λ (h : pos a ≤ℤ pos b). f (omega (arith, ints)))
+use Rattle.plan_model.proofs.Quotients.{rem_by_blocks}
 
 -- ---- remainders by eight
 pub eight_below : (a : ℤ) → floor_rem a 8 < 8
@@ -57,14 +36,6 @@ div_on z n h =
     omega (arith, ints)
 
 -- ---- remainders by a multiple of eight
-rem_by_blocks : (n t : ℕ) → 0 < t → n % (8 * t) ≡ 8 * (n / 8 % t) + n % 8
-rem_by_blocks n t h =
-    let scaled : (8 * t) * (n / (8 * t)) ≡ (8 * t) * (n / 8 / t) = ap (λ (q : ℕ). (8 * t) * q) (sym (div-div-eq-div-mul n 8 t)) in
-    let some : 0 < 8 * t = omega arith in
-    let whole : (8 * t) * (n / (8 * t)) + n % (8 * t) ≡ n = omega arith in
-    let blocks : t * (n / 8 / t) + n / 8 % t ≡ n / 8 = omega arith in
-    omega (arith, scaled, whole, blocks)
-
 pub rem_of_rem : (z : ℤ) (t : ℕ) → 0 < t → floor_rem z (8 * t) % 8 ≡ floor_rem z 8
 unfolding floor_rem
 rem_of_rem (pos n) t h = let e : n % (8 * t) ≡ 8 * (n / 8 % t) + n % 8 = rem_by_blocks n t h in omega arith

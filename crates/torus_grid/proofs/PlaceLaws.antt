@@ -1,42 +1,24 @@
 -- Places in tiles, and the cells of a region row by row.
-use Rattle.std.proofs.Common.{◌≡◌, ℕ, zero, suc, ◌+◌, ◌-◌, ◌*◌, ◌/◌, ◌%◌, ◌^◌, ◌<◌, ◌≤◌, true, ◌&&◌, ℤ, pos, ◌+ℤ◌, ◌-ℤ◌, ◌≤ℤ◌, List, [], ◌∷◌, ◌++◌, map, flat_map, length, get_or, ap, ◌∙◌, arith}
+use Rattle.std.proofs.Common.{◌≡◌, ℕ, zero, suc, ◌+◌, ◌-◌, ◌*◌, ◌/◌, ◌%◌, ◌^◌, ◌<◌, ◌≤◌, ℤ, pos, ◌+ℤ◌, ◌-ℤ◌, ◌≤ℤ◌, List, [], ◌∷◌, ◌++◌, map, flat_map, length, get_or, ap, ◌∙◌, arith}
 use Rattle.std.specs.Int.{int_gap}
 use Rattle.std.proofs.lemmas.Int.{ints}
-use Rattle.std.proofs.lemmas.Bool.{and_parts}
 use Rattle.std.proofs.lemmas.Nat.{pow-add}
 use Rattle.std.proofs.Math.Pow.{pow_mono}
 use Rattle.std.proofs.Math.Nat.{mul-le-mul_left}
 use Rattle.std.proofs.lemmas.List.{get_or-map, get_or_append_left, get_or-append-add, length-map, length-append}
 use Rattle.std.proofs.lemmas.List.FromFn.{length-map-range_with_len, get_or-map-range_with_len}
 use mathlib.Core.Path.{ap₂}
-use lib.Signed.{le_z}
 use Rattle.clip_regions.specs.declared.region.Region.{Region}
 use Rattle.clip_regions.specs.FloorDivision.{floor_rem}
-use Rattle.clip_regions.specs.Regions.{contains, columns, rows, numbers_from, cells}
+use Rattle.clip_regions.specs.Regions.{columns, rows, numbers_from, cells}
 use Rattle.plan_model.specs.Window.{torus_side}
 use Rattle.plan_model.specs.Blocks.{tile_of_cell, wrapped_place}
 use Rattle.plan_model.specs.declared.tiles.TileId.{TileId}
 use Rattle.torus_grid.specs.Places.{place_in_tile, place_among}
 use Rattle.torus_grid.specs.Laws.{PlacesInTiles, CellsInRows}
-use Rattle.torus_grid.proofs.Numbers.{gap_is, rem_of_rem}
-
--- ---- the cell lies in the region, by corners
-pub record Lies (r : Region) (i j : ℤ) : Type 0 where
-  pub west : r.x0 ≤ℤ i
-  pub east : i ≤ℤ r.x1
-  pub north : r.y0 ≤ℤ j
-  pub south : j ≤ℤ r.y1
-
-tested_le : (a b : ℤ) → le_z a b ≡ true → a ≤ℤ b
-tested_le a b e = omega (arith, ints)
-
-pub lies : (r : Region) (i j : ℤ) → contains r i j ≡ true → Lies r i j
-unfolding contains
-lies r i j e =
-    let parts : ((le_z r.x0 i && le_z i r.x1) ≡ true) × ((le_z r.y0 j && le_z j r.y1) ≡ true) = and_parts (le_z r.x0 i && le_z i r.x1) (le_z r.y0 j && le_z j r.y1) e in
-    let across : (le_z r.x0 i ≡ true) × (le_z i r.x1 ≡ true) = and_parts (le_z r.x0 i) (le_z i r.x1) parts.0 in
-    let along : (le_z r.y0 j ≡ true) × (le_z j r.y1 ≡ true) = and_parts (le_z r.y0 j) (le_z j r.y1) parts.1 in
-    record { west = tested_le r.x0 i across.0; east = tested_le i r.x1 across.1; north = tested_le r.y0 j along.0; south = tested_le j r.y1 along.1 }
+use Rattle.torus_grid.proofs.Numbers.{rem_of_rem}
+use Rattle.clip_regions.proofs.Sizes.{gap_is}
+use Rattle.clip_regions.proofs.Cells.{lies, Lies}
 
 -- ---- cells of one tile
 side_is : (k : ℕ) → 3 ≤ k → torus_side k ≡ 8 * 2 ^ (k - 3)

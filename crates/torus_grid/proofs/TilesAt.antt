@@ -10,15 +10,9 @@ use Rattle.plan_model.specs.Blocks.{tiles_per_side}
 use Rattle.plan_model.specs.declared.tiles.TileId.{TileId}
 use Rattle.torus_grid.specs.Grids.{Grid, has_tile, tile_number, tile_at, is_home, SameBut}
 use Rattle.torus_grid.specs.Shown.{shown}
-use Rattle.torus_grid.proofs.Numbers.{by_order}
+use Rattle.strip_planner.proofs.Rings.{by_order, less_is, less_of}
 
 -- ---- which tiles there are
-less_is : (a b : ℕ) → nat_lt a b ≡ true → a < b
-less_is a b h = grind (arith, nat_tests)
-
-less_of : (a b : ℕ) → a < b → nat_lt a b ≡ true
-less_of a b h = grind (arith, nat_tests)
-
 not_less : (a b : ℕ) → b ≤ a → nat_lt a b ≡ false
 not_less a b h = grind (arith, nat_tests)
 

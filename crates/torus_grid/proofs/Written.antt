@@ -1,10 +1,8 @@
 -- Heights that are written over the cells of a region, a row of them at each turn.
-use Rattle.std.proofs.Common.{◌≡◌, ℕ, ◌+◌, ◌-◌, ◌*◌, ◌<◌, ◌≤◌, ◌⊎◌, true, false, ◌&&◌, ℤ, pos, ◌+ℤ◌, ◌-ℤ◌, ◌*ℤ◌, ◌≤ℤ◌, List, length, get_or, set, get_or-set_same, get_or-set_other, length-set, refl, ap, sym, ◌∙◌, subst, inl, inr, arith}
+use Rattle.std.proofs.Common.{◌≡◌, ℕ, ◌+◌, ◌-◌, ◌*◌, ◌<◌, ◌≤◌, ◌⊎◌, true, false, ℤ, pos, ◌+ℤ◌, ◌-ℤ◌, ◌*ℤ◌, ◌≤ℤ◌, List, length, get_or, set, get_or-set_same, get_or-set_other, length-set, refl, ap, sym, ◌∙◌, subst, inl, inr, arith}
 use Rattle.std.specs.Int.{int_gap}
 use Rattle.std.proofs.lemmas.Int.{ints}
-use Rattle.std.proofs.lemmas.Bool.{and_from}
 use mathlib.Core.Path.{ap₂}
-use lib.Signed.{le_z}
 use Rattle.clip_regions.specs.declared.region.Region.{Region}
 use Rattle.clip_regions.specs.FloorDivision.{floor_div, floor_rem}
 use Rattle.clip_regions.specs.Regions.{contains, is_empty, columns, rows}
@@ -12,8 +10,11 @@ use Rattle.plan_model.specs.Blocks.{block_cells}
 use Rattle.plan_model.specs.Sound.{IsInside}
 use Rattle.plan_laws.specs.Hulls.{InsideIsHeld}
 use Rattle.torus_grid.specs.Places.{place_in_tile, tile_height, place_among, IsInOneBlock, IsFree, IsWritten}
-use Rattle.torus_grid.proofs.Numbers.{gap_is, by_order, eight_below, eight_is, rem_on}
-use Rattle.torus_grid.proofs.PlaceLaws.{Lies, lies, IsAt, is_at}
+use Rattle.torus_grid.proofs.Numbers.{eight_below, eight_is, rem_on}
+use Rattle.torus_grid.proofs.PlaceLaws.{IsAt, is_at}
+use Rattle.clip_regions.proofs.Sizes.{gap_is}
+use Rattle.strip_planner.proofs.Rings.{by_order}
+use Rattle.clip_regions.proofs.Cells.{Lies, lies, lying}
 
 -- n heights of a row, from `from` on, are written over a tile from `to` on
 pub record RowSoFar (to from n : ℕ) (old heights new : List ℤ) : Type 0 where
@@ -116,14 +117,6 @@ short_from law r block some =
     }
 
 -- ---- all rows
-le_tested : (a b : ℤ) → a ≤ℤ b → le_z a b ≡ true
-le_tested a b h = grind (arith, ints)
-
-lying : (r : Region) (i j : ℤ) → Lies r i j → contains r i j ≡ true
-unfolding contains
-lying r i j h =
-    and_from (le_z r.x0 i && le_z i r.x1) (le_z r.y0 j && le_z j r.y1) (and_from (le_z r.x0 i) (le_z i r.x1) (le_tested r.x0 i h.west) (le_tested i r.x1 h.east)) (and_from (le_z r.y0 j) (le_z j r.y1) (le_tested r.y0 j h.north) (le_tested j r.y1 h.south))
-
 before_end : (a c : ℤ) (n : ℕ) → a ≤ℤ c → n < int_gap a (c +ℤ pos 1) → (a +ℤ pos n) ≤ℤ c
 before_end a c n h k =
     let whole : pos (int_gap a (c +ℤ pos 1)) ≡ c +ℤ pos 1 -ℤ a = gap_is a (c +ℤ pos 1) (omega (arith, ints)) in

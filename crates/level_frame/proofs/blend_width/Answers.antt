@@ -1,8 +1,9 @@
 use Rattle.std.proofs.Common.{◌-◌, ◌^◌, ◌≤◌, ◌∙◌, arith}
 use Rattle.std.proofs.lemmas.Int.{ints}
 use Rattle.plan_model.specs.Window.{blend_width}
-use Rattle.level_frame.proofs.Numbers.{read_back, power_least}
+use Rattle.level_frame.proofs.Numbers.{power_least}
 use Rattle.level_frame.proofs.blend_width.Goals as goal
+use Rattle.clip_regions.proofs.Numbers.{read_back}
 
 pub returns-clause-value : goal.returns-clause-value
 unfolding blend_width

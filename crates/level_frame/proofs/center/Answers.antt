@@ -6,9 +6,10 @@ use mir.Syntax.{w32}
 use mir.Val.{of_z, to_z}
 use Rattle.clip_regions.specs.FloorDivision.{floor_div}
 use Rattle.plan_model.specs.Window.{center}
-use Rattle.level_frame.proofs.Numbers.{read_back, doubled_power}
+use Rattle.level_frame.proofs.Numbers.{doubled_power}
 use Rattle.level_frame.proofs.Centers.{Quotient, IsNearZero, moved, quotient_bounds, center_west, center_east}
 use Rattle.level_frame.proofs.center.Goals as goal
+use Rattle.clip_regions.proofs.Numbers.{read_back}
 
 divided : (c : goal.After-floor_div) → Quotient c.args.v (pos (2 * 2 ^ c.args.level)) c.floor_div.result
 divided c =

@@ -6,9 +6,11 @@ use mir.Syntax.{w32}
 use mir.Val.{of_z, to_z}
 use Rattle.clip_regions.specs.Regions.{HasEvenCorners}
 use Rattle.plan_model.specs.Window.{window, center, half_width, IsInReach}
-use Rattle.level_frame.proofs.Numbers.{read_back, power_least}
-use Rattle.level_frame.proofs.Corners.{same_corners, window_even, some_cell, IsCentered, centered_at, window_in_reach}
+use Rattle.level_frame.proofs.Numbers.{power_least}
+use Rattle.level_frame.proofs.Corners.{window_even, some_cell, IsCentered, centered_at, window_in_reach}
 use Rattle.level_frame.proofs.window.Goals as goal
+use Rattle.clip_regions.proofs.Numbers.{read_back}
+use Rattle.clip_regions.proofs.Cells.{same_corners}
 
 half_below : (h : ℤ) (n : ℕ) → h ≡ pos n → h ≤ℤ pos 127 → n ≤ 127
 half_below h n e most = omega (arith, ints)

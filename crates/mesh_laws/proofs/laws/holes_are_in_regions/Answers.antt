@@ -1,9 +1,10 @@
 -- The hole is the finer region with each corner halved, and these are even.
 use Rattle.std.proofs.Common.{pos, ◌*ℤ◌}
 use Rattle.mesh_model.specs.Vertices.{hole}
-use Rattle.mesh_laws.proofs.Rectangles.{Lies, lies, from_hole}
 use Rattle.mesh_laws.proofs.Sizes.{contained, hole_small}
 use Rattle.mesh_laws.proofs.laws.holes_are_in_regions.Goals as goal
+use Rattle.clip_regions.proofs.Cells.{Lies, lies}
+use Rattle.mesh_model.proofs.Rectangles.{from_hole}
 
 pub returns-clause-finer : goal.returns-clause-finer
 returns-clause-finer c = λ finer i j shape there.

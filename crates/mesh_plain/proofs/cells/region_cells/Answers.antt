@@ -4,8 +4,9 @@ use Rattle.std.specs.List.{range_with_len, flat_map}
 use Rattle.clip_regions.specs.Regions.{columns, rows}
 use Rattle.mesh_plain_heights.specs.declared.places.Cell.{Cell}
 use Rattle.mesh_plain.specs.Cells.{cell_in, named}
-use Rattle.mesh_plain.proofs.Grids.{map_grid, rows_more}
+use Rattle.mesh_plain.proofs.Grids.{rows_more}
 use Rattle.mesh_plain.proofs.cells.region_cells.Goals as goal
+use Rattle.mesh_model.proofs.Ranges.{map_grid}
 
 pub loop-v-preserved : goal.loop-v-preserved
 loop-v-preserved c =

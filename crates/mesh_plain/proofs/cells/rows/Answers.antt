@@ -2,9 +2,9 @@
 use Rattle.std.proofs.Common.{◌≡◌, ◌≤◌, ◌*◌, ◌^◌, ℤ, pos, ◌+ℤ◌, ◌-ℤ◌, ◌≤ℤ◌, nat_abs, sym, w32, arith}
 use Rattle.std.proofs.lemmas.Int.{ints}
 use Rattle.clip_regions.specs.Regions.{rows}
-use Rattle.mesh_plain.proofs.Gaps.{gap_none, span_is, span_few}
 use Rattle.mesh_plain.proofs.cells.rows.Goals as goal
 use mir.Val.{to_z, of_z}
+use Rattle.clip_regions.proofs.Gaps.{gap_none, span_is, span_few}
 
 pub returns-then-region-clause-value : goal.returns-then-region-clause-value
 unfolding rows

@@ -4,8 +4,9 @@ use Rattle.std.specs.List.{range_with_len, flat_map}
 use Rattle.clip_regions.specs.Regions.{columns, rows}
 use Rattle.mesh_model.specs.Parts.{square_triangles}
 use Rattle.mesh_plain.specs.Strips.{strip_square}
-use Rattle.mesh_plain.proofs.Grids.{flat_map_grid, rows_more}
+use Rattle.mesh_plain.proofs.Grids.{rows_more}
 use Rattle.mesh_plain.proofs.triangles.block_triangles.Goals as goal
+use Rattle.mesh_model.proofs.Ranges.{flat_map_grid}
 
 pub loop-v-preserved : goal.loop-v-preserved
 loop-v-preserved c =

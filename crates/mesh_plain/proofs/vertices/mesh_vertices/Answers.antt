@@ -5,9 +5,9 @@ use Rattle.mesh_model.specs.Vertices.{LevelCell, vertex_at, mesh_vertices}
 use Rattle.mesh_plain_heights.specs.declared.places.Cell.{Cell}
 use Rattle.mesh_plain.specs.Rings.{level_cell}
 use Rattle.mesh_plain_heights.specs.Drawn.{IsDrawnCell}
-use Rattle.mesh_plain.proofs.Grids.{map_of_map}
 use Rattle.mesh_plain.proofs.Spread.{all_active, all_drawn}
 use Rattle.mesh_plain.proofs.vertices.mesh_vertices.Goals as goal
+use Rattle.mesh_model.proofs.Ranges.{map_of_map}
 
 pub listed_vertices-requires-clause-actives : goal.listed_vertices-requires-clause-actives
 listed_vertices-requires-clause-actives c = all_active 0 c.args.actives.now c.requires.drawn

@@ -4,9 +4,9 @@ use Rattle.std.specs.Int.{int_max}
 use Rattle.std.proofs.lemmas.Int.{ints, to_z-of_z}
 use Rattle.plan_model.specs.Window.{blend_width}
 use Rattle.mesh_model.specs.Height.{border_distance, blend_share}
-use Rattle.mesh_plain_heights.proofs.Blends.{share_is}
 use Rattle.mesh_plain_heights.proofs.heights.blend_share.Goals as goal
 use mir.Val.{to_z, of_z}
+use Rattle.mesh_model.proofs.Weights.{share_is}
 
 pub returns-then-coarsest : goal.returns-then-coarsest
 unfolding blend_share

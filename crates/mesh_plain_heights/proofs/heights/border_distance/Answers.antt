@@ -2,9 +2,10 @@
 use Rattle.std.proofs.Common.{◌≡◌, ◌≤ℤ◌, ◌-ℤ◌, ◌∙◌, ◌^◌, ℤ, pos, neg_ℤ, ap₂, subst, sym, w32}
 use Rattle.std.specs.Int.{int_min}
 use Rattle.std.proofs.lemmas.Int.{to_z-of_z}
-use Rattle.mesh_plain_heights.proofs.Blends.{difference_is, distance_is, distance_low, distance_high}
+use Rattle.mesh_plain_heights.proofs.Blends.{difference_is, distance_low, distance_high}
 use Rattle.mesh_plain_heights.proofs.heights.border_distance.Goals as goal
 use mir.Val.{to_z, of_z}
+use Rattle.mesh_model.proofs.Weights.{distance_is}
 
 pub returns-clause-value : goal.returns-clause-value
 returns-clause-value c =

@@ -1,7 +1,7 @@
 -- The scales, one by one.
 use Rattle.std.proofs.Common.{refl, arith}
-use Rattle.mesh_plain_heights.proofs.Weights.{coarser_scale_is}
 use Rattle.mesh_plain_heights.proofs.heights.coarser_scale.Goals as goal
+use Rattle.mesh_model.proofs.Weights.{coarser_scale_is}
 
 pub returns-in-4-clause-value : goal.returns-in-4-clause-value
 returns-in-4-clause-value c = coarser_scale_is c.args.k 4 16 (omega arith) refl

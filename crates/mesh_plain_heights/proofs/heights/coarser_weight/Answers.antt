@@ -3,9 +3,10 @@ use Rattle.std.proofs.Common.{◌≡◌, ◌/◌, ℤ, pos, ◌≤ℤ◌, subst,
 use Rattle.std.proofs.lemmas.Int.{ints, to_z-of_z}
 use Rattle.plan_model.specs.Window.{blend_width}
 use Rattle.mesh_plain_heights.specs.Drawn.{coarser_weight}
-use Rattle.mesh_plain_heights.proofs.Weights.{coarser_fits, weight_sfits, product_is}
+use Rattle.mesh_plain_heights.proofs.Weights.{coarser_fits}
 use Rattle.mesh_plain_heights.proofs.heights.coarser_weight.Goals as goal
 use mir.Val.{to_z, of_z}
+use Rattle.mesh_model.proofs.Weights.{weight_sfits, product_is}
 
 pub returns-clause-value : goal.returns-clause-value
 unfolding coarser_weight

@@ -5,9 +5,10 @@ use Rattle.terrain_model.specs.Terrain.{level_height}
 use Rattle.plan_model.specs.Window.{blend_width}
 use Rattle.mesh_model.specs.Height.{blend_share}
 use Rattle.mesh_plain_heights.specs.Drawn.{blended_by}
-use Rattle.mesh_plain_heights.proofs.Weights.{share_fits, blend_is, read_32, read_16}
+use Rattle.mesh_plain_heights.proofs.Weights.{blend_is}
 use Rattle.mesh_plain_heights.proofs.heights.finer_height.Goals as goal
 use mir.Val.{to_z, of_z, SFits}
+use Rattle.mesh_model.proofs.Weights.{share_fits, read_32, read_16}
 
 pub blended-requires-clause-some : goal.blended-requires-clause-some
 blended-requires-clause-some c =

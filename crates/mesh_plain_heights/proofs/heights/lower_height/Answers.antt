@@ -3,10 +3,10 @@ use Rattle.std.proofs.Common.{◌≡◌, ◌+◌, ◌∙◌, ℤ, subst, sym, ap
 use Rattle.std.proofs.lemmas.Int.{to_z-of_z}
 use Rattle.height_pyramid.specs.Reach.{IsInReach}
 use Rattle.mesh_model.specs.Height.{lower_end}
-use Rattle.mesh_plain_heights.proofs.Weights.{read_32}
 use Rattle.mesh_plain_heights.proofs.Reaches.{lower_reach}
 use Rattle.mesh_plain_heights.proofs.heights.lower_height.Goals as goal
 use mir.Val.{to_z, of_z, SFits}
+use Rattle.mesh_model.proofs.Weights.{read_32}
 
 column_is : (c : goal.After-lower_end-2) → to_z w32 (of_z w32 c.lower_end.result) ≡ lower_end c.args.cell.now.i
 column_is c =

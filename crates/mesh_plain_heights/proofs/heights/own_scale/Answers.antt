@@ -1,7 +1,7 @@
 -- The scales, one by one.
 use Rattle.std.proofs.Common.{refl, arith}
-use Rattle.mesh_plain_heights.proofs.Weights.{own_scale_is}
 use Rattle.mesh_plain_heights.proofs.heights.own_scale.Goals as goal
+use Rattle.mesh_model.proofs.Weights.{own_scale_is}
 
 pub returns-in-4-clause-value : goal.returns-in-4-clause-value
 returns-in-4-clause-value c = own_scale_is c.args.k 4 32 (omega arith) refl

@@ -3,10 +3,10 @@ use Rattle.std.proofs.Common.{◌≡◌, ◌+◌, ◌∙◌, ℤ, subst, sym, ap
 use Rattle.std.proofs.lemmas.Int.{to_z-of_z}
 use Rattle.height_pyramid.specs.Reach.{IsInReach}
 use Rattle.mesh_model.specs.Height.{upper_end}
-use Rattle.mesh_plain_heights.proofs.Weights.{read_32}
 use Rattle.mesh_plain_heights.proofs.Reaches.{upper_reach}
 use Rattle.mesh_plain_heights.proofs.heights.upper_height.Goals as goal
 use mir.Val.{to_z, of_z, SFits}
+use Rattle.mesh_model.proofs.Weights.{read_32}
 
 column_is : (c : goal.After-upper_end-2) → to_z w32 (of_z w32 c.upper_end.result) ≡ upper_end c.args.cell.now.i
 column_is c =

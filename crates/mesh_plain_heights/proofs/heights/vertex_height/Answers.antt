@@ -4,8 +4,9 @@ use Rattle.std.proofs.lemmas.Bool.Decides.{nat_tests}
 use Rattle.clip_regions.specs.declared.region.Region.{Region}
 use Rattle.terrain_model.specs.Terrain.{level_height}
 use Rattle.mesh_model.specs.Height.{active_of, lower_end, upper_end, blended_height}
-use Rattle.mesh_plain_heights.proofs.Weights.{coarsest_is, vertex_is, read_32}
+use Rattle.mesh_plain_heights.proofs.Weights.{coarsest_is, vertex_is}
 use Rattle.mesh_plain_heights.proofs.heights.vertex_height.Goals as goal
+use Rattle.mesh_model.proofs.Weights.{read_32}
 
 pub returns-then-from-actives : goal.returns-then-from-actives
 returns-then-from-actives c =

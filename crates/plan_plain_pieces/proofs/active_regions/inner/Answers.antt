@@ -5,9 +5,9 @@ use Rattle.clip_regions.specs.declared.region.Region.{Region}
 use Rattle.clip_regions.specs.Regions.{erode, double, IsWithin}
 use Rattle.plan_model.specs.Actives.{inner}
 use Rattle.plan_model.specs.Window.{margin}
-use Rattle.plan_plain_pieces.proofs.Numbers.{read_back}
 use Rattle.plan_plain_pieces.proofs.Drawn.{erode_within}
 use Rattle.plan_plain_pieces.proofs.active_regions.inner.Goals as goal
+use Rattle.clip_regions.proofs.Numbers.{read_back}
 
 eroded : (c : goal.After-double) → c.erode.result ≡ erode c.args.coarser (pos (margin c.args.k))
 eroded c =

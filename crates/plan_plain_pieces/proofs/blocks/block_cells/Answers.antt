@@ -1,8 +1,8 @@
 use Rattle.std.proofs.Common.{arith}
 use Rattle.std.proofs.lemmas.Int.{ints}
 use Rattle.plan_model.specs.Blocks.{block_cells}
-use Rattle.plan_plain_pieces.proofs.Shapes.{same_corners}
 use Rattle.plan_plain_pieces.proofs.blocks.block_cells.Goals as goal
+use Rattle.clip_regions.proofs.Cells.{same_corners}
 
 pub returns-clause-value : goal.returns-clause-value
 unfolding block_cells

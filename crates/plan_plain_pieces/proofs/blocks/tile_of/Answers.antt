@@ -1,9 +1,9 @@
 use Rattle.std.proofs.Common.{ℤ, ap, ◌∙◌}
 use Rattle.clip_regions.specs.FloorDivision.{floor_rem}
 use Rattle.plan_model.specs.Blocks.{tiles_per_side}
-use Rattle.plan_plain_pieces.proofs.Numbers.{read_back}
 use Rattle.plan_plain_pieces.proofs.Shapes.{tile_is}
 use Rattle.plan_plain_pieces.proofs.blocks.tile_of.Goals as goal
+use Rattle.clip_regions.proofs.Numbers.{read_back}
 
 pub returns : goal.returns
 returns c = record {

@@ -2,8 +2,8 @@ use Rattle.std.proofs.Common.{ℤ, ap, ◌∙◌, rules}
 use mir.Syntax.{w32}
 use mir.Val.{SFits}
 use Rattle.clip_regions.specs.FloorDivision.{floor_div}
-use Rattle.plan_plain_pieces.proofs.Numbers.{read_back}
 use Rattle.plan_plain_pieces.proofs.strip_pieces.first_column.Goals as goal
+use Rattle.clip_regions.proofs.Numbers.{read_back}
 
 pub returns-clause-value : goal.returns-clause-value
 returns-clause-value c =

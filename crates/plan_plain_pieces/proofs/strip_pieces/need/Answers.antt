@@ -5,9 +5,9 @@ use mir.Syntax.{w32}
 use mir.Val.{SFits}
 use Rattle.clip_regions.specs.FloorDivision.{floor_div}
 use Rattle.plan_model.specs.Strips.{need}
-use Rattle.plan_plain_pieces.proofs.Numbers.{read_back}
-use Rattle.plan_plain_pieces.proofs.Shapes.{same_corners}
 use Rattle.plan_plain_pieces.proofs.strip_pieces.need.Goals as goal
+use Rattle.clip_regions.proofs.Numbers.{read_back}
+use Rattle.clip_regions.proofs.Cells.{same_corners}
 
 pub returns-clause-value : goal.returns-clause-value
 unfolding need

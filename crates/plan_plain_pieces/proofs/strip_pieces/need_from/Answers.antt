@@ -1,8 +1,8 @@
 use Rattle.std.proofs.Common.{◌≡◌, ℤ, ap, ◌∙◌, arith}
 use Rattle.std.proofs.lemmas.Int.{ints}
 use Rattle.clip_regions.specs.FloorDivision.{floor_div}
-use Rattle.plan_plain_pieces.proofs.Numbers.{read_back}
 use Rattle.plan_plain_pieces.proofs.strip_pieces.need_from.Goals as goal
+use Rattle.clip_regions.proofs.Numbers.{read_back}
 
 pub returns-clause-value : goal.returns-clause-value
 returns-clause-value c =

@@ -5,8 +5,8 @@ use mir.Syntax.{w32}
 use mir.Val.{SFits, of_z, to_z}
 use Rattle.clip_regions.specs.FloorDivision.{floor_div}
 use Rattle.plan_model.specs.Strips.{piece_in}
-use Rattle.plan_plain_pieces.proofs.Numbers.{read_back}
 use Rattle.plan_plain_pieces.proofs.strip_pieces.piece_at.Goals as goal
+use Rattle.clip_regions.proofs.Numbers.{read_back}
 
 pub returns : goal.returns
 returns c =

@@ -3,9 +3,9 @@ use mathlib.Core.Path.{ap₂}
 use Rattle.clip_regions.specs.Regions.{meet}
 use Rattle.plan_model.specs.Blocks.{block_cells}
 use Rattle.plan_model.specs.Strips.{piece_in}
-use Rattle.plan_plain_pieces.proofs.Numbers.{read_back}
 use Rattle.plan_plain_pieces.proofs.Shapes.{same_pieces}
 use Rattle.plan_plain_pieces.proofs.strip_pieces.piece_in.Goals as goal
+use Rattle.clip_regions.proofs.Numbers.{read_back}
 
 pub returns : goal.returns
 unfolding piece_in

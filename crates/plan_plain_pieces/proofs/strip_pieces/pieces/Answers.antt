@@ -3,9 +3,10 @@ use Rattle.std.proofs.Common.{◌≡◌, ℕ, ◌<◌, ◌^◌, ℤ, pos, ◌+�
 use Rattle.std.proofs.lemmas.List.Elements.{All-same}
 use Rattle.clip_regions.specs.FloorDivision.{floor_div}
 use Rattle.plan_model.specs.Strips.{pieces}
-use Rattle.plan_plain_pieces.proofs.Rows.{ordered, row, rows_more, pieces_none, pieces_are}
+use Rattle.plan_plain_pieces.proofs.Rows.{row, rows_more, pieces_none, pieces_are}
 use Rattle.plan_plain_pieces.proofs.Parts.{IsNear, pieces_near, pieces_few}
 use Rattle.plan_plain_pieces.proofs.strip_pieces.pieces.Goals as goal
+use Rattle.plan_sound.proofs.Parts.{ordered}
 
 pub returns-then-is_empty-clause-value : goal.returns-then-is_empty-clause-value
 returns-then-is_empty-clause-value c =

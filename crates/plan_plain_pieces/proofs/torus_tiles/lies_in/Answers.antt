@@ -4,8 +4,8 @@ use mir.Syntax.{w32}
 use mir.Val.{SFits}
 use Rattle.plan_model.specs.Blocks.{tile_of, same_tile}
 use Rattle.plan_model.specs.declared.tiles.TileId.{TileId}
-use Rattle.plan_plain_pieces.proofs.Numbers.{read_back}
 use Rattle.plan_plain_pieces.proofs.torus_tiles.lies_in.Goals as goal
+use Rattle.clip_regions.proofs.Numbers.{read_back}
 
 pub returns : goal.returns
 returns c =

@@ -2,9 +2,8 @@ use Rattle.std.proofs.Common.{rules}
 use mir.Syntax.{w32}
 use mir.Val.{SFits}
 use Rattle.plan_plain_pieces.specs.Spans.{span}
-use Rattle.plan_plain_pieces.proofs.Numbers.{max_is, min_is}
-use Rattle.plan_plain_pieces.proofs.Shapes.{same_corners}
 use Rattle.plan_plain_pieces.proofs.window_strips.span.Goals as goal
+use Rattle.clip_regions.proofs.Cells.{max_is, min_is, same_corners}
 
 pub returns : goal.returns
 unfolding span

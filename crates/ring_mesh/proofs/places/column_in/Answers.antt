@@ -3,9 +3,9 @@ use Rattle.std.proofs.Common.{◌≡◌, ◌+◌, ◌≤◌, ℤ, ◌-ℤ◌, �
 use Rattle.std.specs.Int.{int_gap}
 use Rattle.std.proofs.lemmas.Int.{ints}
 use Rattle.clip_regions.specs.Regions.{columns}
-use Rattle.ring_mesh.proofs.Gaps.{way_is, way_within}
 use Rattle.ring_mesh.proofs.places.column_in.Goals as goal
 use mir.Val.{to_z, of_z}
+use Rattle.clip_regions.proofs.Gaps.{way_is, way_within}
 
 pub returns-clause-few : goal.returns-clause-few
 unfolding columns

@@ -2,9 +2,9 @@
 use Rattle.std.proofs.Common.{◌≡◌, ℤ, pos, ◌+ℤ◌, ◌-ℤ◌, ◌≤ℤ◌, sym, w32, arith}
 use Rattle.std.proofs.lemmas.Int.{ints}
 use Rattle.clip_regions.specs.Regions.{rows}
-use Rattle.ring_mesh.proofs.Gaps.{gap_none, span_is}
 use Rattle.ring_mesh.proofs.sizes.rows.Goals as goal
 use mir.Val.{to_z, of_z}
+use Rattle.clip_regions.proofs.Gaps.{gap_none, span_is}
 
 pub returns-then-region-clause-value : goal.returns-then-region-clause-value
 unfolding rows

@@ -5,9 +5,9 @@ use Rattle.clip_regions.specs.declared.region.Region.{Region}
 use Rattle.clip_regions.specs.Regions.{columns, rows}
 use Rattle.mesh_laws.specs.Rings.{ring_square}
 use Rattle.ring_mesh.specs.Squares.{HasSquare, HasSquares}
-use Rattle.ring_mesh.proofs.Gaps.{gap_holds}
 use Rattle.ring_mesh.proofs.squares.add_square.Goals as goal
 use mir.Val.{to_z, of_z}
+use Rattle.clip_regions.proofs.Gaps.{gap_holds}
 
 pub overflow_cast-u : goal.overflow_cast-u
 overflow_cast-u c = omega (arith, ints)

@@ -7,8 +7,9 @@ use Rattle.mesh_model.specs.declared.shapes.Vertex.{Vertex}
 use Rattle.mesh_model.specs.Vertices.{vertex_at}
 use Rattle.mesh_laws.specs.Rings.{run}
 use Rattle.ring_mesh.specs.Listed.{vertices_at}
-use Rattle.ring_mesh.proofs.Lists.{map_more, map_of_map}
+use Rattle.ring_mesh.proofs.Lists.{map_more}
 use Rattle.ring_mesh.proofs.vertices.add_run.Goals as goal
+use Rattle.mesh_model.proofs.Ranges.{map_of_map}
 
 abbrev of_run : Terrain → ℕ → List Region → ℕ → ℤ → ℤ → ℕ → Vertex
 of_run terrain k actives level i j u = vertex_at terrain k actives (record { level = level; i = i +ℤ pos u; j = j })

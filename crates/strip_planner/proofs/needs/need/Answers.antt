@@ -5,9 +5,9 @@ use mir.Syntax.{w32}
 use mir.Val.{SFits}
 use Rattle.clip_regions.specs.FloorDivision.{floor_div}
 use Rattle.plan_model.specs.Strips.{need}
-use Rattle.strip_planner.proofs.Numbers.{read_back}
-use Rattle.strip_planner.proofs.Shapes.{same_corners}
 use Rattle.strip_planner.proofs.needs.need.Goals as goal
+use Rattle.clip_regions.proofs.Numbers.{read_back}
+use Rattle.clip_regions.proofs.Cells.{same_corners}
 
 pub returns-clause-value : goal.returns-clause-value
 unfolding need

@@ -4,9 +4,9 @@ use Rattle.std.proofs.lemmas.Int.{ints}
 use mathlib.Core.Path.{ap₂}
 use Rattle.clip_regions.specs.FloorDivision.{floor_div}
 use Rattle.plan_laws.specs.Pieces.{blocks_between}
-use Rattle.strip_planner.proofs.Numbers.{read_back}
 use Rattle.strip_planner.proofs.Rows.{Eighth, count_is}
 use Rattle.strip_planner.proofs.piece_walk.block_count.Goals as goal
+use Rattle.clip_regions.proofs.Numbers.{read_back}
 
 pub returns-clause-value : goal.returns-clause-value
 unfolding blocks_between

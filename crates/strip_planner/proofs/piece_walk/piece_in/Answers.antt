@@ -3,9 +3,9 @@ use mathlib.Core.Path.{ap₂}
 use Rattle.clip_regions.specs.Regions.{meet}
 use Rattle.plan_model.specs.Blocks.{block_cells}
 use Rattle.plan_model.specs.Strips.{piece_in}
-use Rattle.strip_planner.proofs.Numbers.{read_back}
 use Rattle.strip_planner.proofs.Shapes.{same_pieces}
 use Rattle.strip_planner.proofs.piece_walk.piece_in.Goals as goal
+use Rattle.clip_regions.proofs.Numbers.{read_back}
 
 pub returns : goal.returns
 unfolding piece_in

@@ -5,10 +5,11 @@ use mathlib.Core.Path.{ap₂}
 use mir.Syntax.{w32}
 use mir.Val.{SFits}
 use Rattle.plan_laws.specs.Pieces.{blocks_between}
-use Rattle.strip_planner.proofs.Numbers.{read_back}
-use Rattle.strip_planner.proofs.Rows.{ordered, pieces_none}
+use Rattle.strip_planner.proofs.Rows.{pieces_none}
 use Rattle.strip_planner.proofs.Counted.{counted}
 use Rattle.strip_planner.proofs.strip_pieces.piece_count.Goals as goal
+use Rattle.clip_regions.proofs.Numbers.{read_back}
+use Rattle.plan_sound.proofs.Parts.{ordered}
 
 pub returns-then-is_empty-clause-value : goal.returns-then-is_empty-clause-value
 returns-then-is_empty-clause-value c =

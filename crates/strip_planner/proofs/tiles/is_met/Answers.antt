@@ -5,9 +5,9 @@ use Rattle.clip_regions.specs.FloorDivision.{floor_div, floor_rem}
 use Rattle.plan_model.specs.Blocks.{tiles_per_side}
 use Rattle.plan_laws.specs.Pieces.{blocks_between}
 use Rattle.strip_planner.specs.Met.{ahead}
-use Rattle.strip_planner.proofs.Numbers.{read_back}
 use Rattle.strip_planner.proofs.Rings.{has_place_at, has_place_beyond}
 use Rattle.strip_planner.proofs.tiles.is_met.Goals as goal
+use Rattle.clip_regions.proofs.Numbers.{read_back}
 
 pub returns-then-t-side : goal.returns-then-t-side
 returns-then-t-side c =

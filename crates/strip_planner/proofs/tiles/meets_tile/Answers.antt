@@ -8,10 +8,10 @@ use Rattle.plan_model.specs.Blocks.{tiles_per_side}
 use Rattle.plan_laws.specs.Pieces.{blocks_between}
 use Rattle.plan_laws.specs.Tiles.{meets_column, meets_row}
 use Rattle.strip_planner.specs.Met.{has_place}
-use Rattle.strip_planner.proofs.Numbers.{read_back}
-use Rattle.strip_planner.proofs.Rows.{ordered}
 use Rattle.strip_planner.proofs.MetTiles.{none_met, column_is, row_is, met_by_both, met_by_none}
 use Rattle.strip_planner.proofs.tiles.meets_tile.Goals as goal
+use Rattle.clip_regions.proofs.Numbers.{read_back}
+use Rattle.plan_sound.proofs.Parts.{ordered}
 
 pub returns-then-is_empty : goal.returns-then-is_empty
 returns-then-is_empty c =

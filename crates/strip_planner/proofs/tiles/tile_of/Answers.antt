@@ -1,9 +1,9 @@
 use Rattle.std.proofs.Common.{ℤ, ap, ◌∙◌}
 use Rattle.clip_regions.specs.FloorDivision.{floor_rem}
 use Rattle.plan_model.specs.Blocks.{tiles_per_side}
-use Rattle.strip_planner.proofs.Numbers.{read_back}
 use Rattle.strip_planner.proofs.Shapes.{tile_is}
 use Rattle.strip_planner.proofs.tiles.tile_of.Goals as goal
+use Rattle.clip_regions.proofs.Numbers.{read_back}
 
 pub returns-clause-value : goal.returns-clause-value
 returns-clause-value c =

@@ -2,9 +2,9 @@ use Rattle.std.proofs.Common.{◌≡◌, ℕ, ◌-◌, ℤ, ap, ◌∙◌}
 use mathlib.Core.Path.{ap₂}
 use lib.Bits.{bit_and}
 use Rattle.clip_regions.specs.FloorDivision.{floor_rem}
-use Rattle.strip_planner.proofs.Numbers.{read_back}
 use Rattle.strip_planner.proofs.Masks.{masked}
 use Rattle.strip_planner.proofs.tiles.tile_place.Goals as goal
+use Rattle.clip_regions.proofs.Numbers.{read_back}
 
 pub returns-clause-value : goal.returns-clause-value
 returns-clause-value c =

@@ -3,9 +3,9 @@ use Rattle.std.proofs.lemmas.Int.{ints}
 use Rattle.std.proofs.lemmas.List.{append-nil}
 use Rattle.clip_regions.specs.declared.region.Region.{Region}
 use Rattle.plan_model.specs.Strips.{left_of}
-use Rattle.strip_planner.proofs.Shapes.{same_corners}
 use Rattle.strip_planner.proofs.Sides.{left_kept, left_gone}
 use Rattle.strip_planner.proofs.window_strips.push_left.Goals as goal
+use Rattle.clip_regions.proofs.Cells.{same_corners}
 
 pub returns-then-window-filled-clause-value : goal.returns-then-window-filled-clause-value
 unfolding left_of

@@ -3,9 +3,9 @@ use Rattle.std.proofs.lemmas.Int.{ints}
 use Rattle.std.proofs.lemmas.List.{append-nil}
 use Rattle.clip_regions.specs.declared.region.Region.{Region}
 use Rattle.plan_model.specs.Strips.{right_of}
-use Rattle.strip_planner.proofs.Shapes.{same_corners}
 use Rattle.strip_planner.proofs.Sides.{right_kept, right_gone}
 use Rattle.strip_planner.proofs.window_strips.push_right.Goals as goal
+use Rattle.clip_regions.proofs.Cells.{same_corners}
 
 pub returns-then-filled-window-clause-value : goal.returns-then-filled-window-clause-value
 unfolding right_of

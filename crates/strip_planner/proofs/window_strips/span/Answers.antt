@@ -2,9 +2,8 @@ use Rattle.std.proofs.Common.{rules}
 use mir.Syntax.{w32}
 use mir.Val.{SFits}
 use Rattle.strip_planner.specs.Spans.{span}
-use Rattle.strip_planner.proofs.Numbers.{max_is, min_is}
-use Rattle.strip_planner.proofs.Shapes.{same_corners}
 use Rattle.strip_planner.proofs.window_strips.span.Goals as goal
+use Rattle.clip_regions.proofs.Cells.{max_is, min_is, same_corners}
 
 pub returns : goal.returns
 unfolding span

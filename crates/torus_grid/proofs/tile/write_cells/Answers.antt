@@ -7,9 +7,9 @@ use mir.Syntax.{w32}
 use mir.Val.{SFits}
 use Rattle.clip_regions.specs.FloorDivision.{floor_rem}
 use Rattle.clip_regions.specs.Regions.{columns, rows, area}
-use Rattle.torus_grid.proofs.Numbers.{read_back}
 use Rattle.torus_grid.proofs.Written.{IsShort, short_from, rows_more, rows_at, all_written}
 use Rattle.torus_grid.proofs.tile.write_cells.Goals as goal
+use Rattle.clip_regions.proofs.Numbers.{read_back}
 
 pub span-width-requires-clause-order : goal.span-width-requires-clause-order
 span-width-requires-clause-order c =

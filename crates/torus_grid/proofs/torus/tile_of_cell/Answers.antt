@@ -2,8 +2,8 @@ use Rattle.std.proofs.Common.{◌≤◌, ℤ, ap, sym, ◌∙◌, arith}
 use mathlib.Core.Path.{ap₂}
 use Rattle.clip_regions.specs.FloorDivision.{floor_div}
 use Rattle.plan_model.specs.Blocks.{tile_of}
-use Rattle.torus_grid.proofs.Numbers.{read_back}
 use Rattle.torus_grid.proofs.torus.tile_of_cell.Goals as goal
+use Rattle.clip_regions.proofs.Numbers.{read_back}
 
 pub returns : goal.returns
 returns c =

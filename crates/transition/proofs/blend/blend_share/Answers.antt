@@ -4,9 +4,10 @@ use Rattle.std.specs.Int.{int_max}
 use Rattle.std.proofs.lemmas.Int.{ints, to_z-of_z}
 use Rattle.plan_model.specs.Window.{blend_width}
 use Rattle.mesh_model.specs.Height.{border_distance, blend_share}
-use Rattle.transition.proofs.Weights.{share_is, share_fits, share_read}
+use Rattle.transition.proofs.Weights.{share_read}
 use Rattle.transition.proofs.blend.blend_share.Goals as goal
 use mir.Val.{to_z, of_z}
+use Rattle.mesh_model.proofs.Weights.{share_fits, share_is}
 
 pub returns-then-coarsest-clause-value : goal.returns-then-coarsest-clause-value
 unfolding blend_share

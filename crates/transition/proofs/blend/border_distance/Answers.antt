@@ -2,9 +2,10 @@
 use Rattle.std.proofs.Common.{◌≡◌, ◌≤ℤ◌, ◌-ℤ◌, ◌∙◌, ℤ, pos, ap₂, subst, sym, w32, w64, rules}
 use Rattle.std.specs.Int.{int_min}
 use Rattle.std.proofs.lemmas.Int.{to_z-of_z}
-use Rattle.transition.proofs.Weights.{difference_is, distance_is, distance_inside}
+use Rattle.transition.proofs.Weights.{difference_is, distance_inside}
 use Rattle.transition.proofs.blend.border_distance.Goals as goal
 use mir.Val.{to_z, of_z, SFits}
+use Rattle.mesh_model.proofs.Weights.{distance_is}
 
 pub returns-clause-value : goal.returns-clause-value
 returns-clause-value c =

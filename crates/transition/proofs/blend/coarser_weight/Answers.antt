@@ -3,9 +3,10 @@ use Rattle.std.proofs.Common.{◌≡◌, ◌/◌, ℤ, pos, ◌≤ℤ◌, subst,
 use Rattle.std.proofs.lemmas.Int.{ints, to_z-of_z}
 use Rattle.plan_model.specs.Window.{blend_width}
 use Rattle.transition.specs.Weights.{coarser_weight}
-use Rattle.transition.proofs.Weights.{coarser_fits, weight_sfits, product_is}
+use Rattle.transition.proofs.Weights.{coarser_fits}
 use Rattle.transition.proofs.blend.coarser_weight.Goals as goal
 use mir.Val.{to_z, of_z}
+use Rattle.mesh_model.proofs.Weights.{weight_sfits, product_is}
 
 pub returns-clause-value : goal.returns-clause-value
 unfolding coarser_weight

@@ -2,9 +2,9 @@
 use Rattle.std.proofs.Common.{◌≡◌, ◌+ℤ◌, ◌*ℤ◌, ◌∙◌, ap, w32, arith}
 use Rattle.std.proofs.lemmas.Int.{ints, to_z-of_z}
 use Rattle.transition.specs.Weights.{own_weight, coarser_weight, mean_by}
-use Rattle.transition.proofs.Weights.{sum_is, read_32}
 use Rattle.transition.proofs.blend.mean.Goals as goal
 use mir.Val.{to_z, of_z}
+use Rattle.mesh_model.proofs.Weights.{sum_is, read_32}
 
 pub weighted-requires-2-clause-low : goal.weighted-requires-2-clause-low
 weighted-requires-2-clause-low c = omega (arith, ints)

@@ -3,9 +3,10 @@ use Rattle.std.proofs.Common.{◌≡◌, ◌/◌, ℤ, pos, ◌-ℤ◌, ◌≤�
 use Rattle.std.proofs.lemmas.Int.{ints}
 use Rattle.plan_model.specs.Window.{blend_width}
 use Rattle.transition.specs.Weights.{own_weight}
-use Rattle.transition.proofs.Weights.{own_fits, weight_sfits, product_is}
+use Rattle.transition.proofs.Weights.{own_fits}
 use Rattle.transition.proofs.blend.own_weight.Goals as goal
 use mir.Val.{to_z, of_z}
+use Rattle.mesh_model.proofs.Weights.{weight_sfits, product_is}
 
 pub returns-clause-value : goal.returns-clause-value
 unfolding own_weight

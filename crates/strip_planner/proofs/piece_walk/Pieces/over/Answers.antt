@@ -7,10 +7,11 @@ use Rattle.clip_regions.specs.FloorDivision.{floor_div}
 use Rattle.clip_regions.specs.Regions.{IsWithin}
 use Rattle.plan_laws.specs.Pieces.{blocks_between}
 use Rattle.strip_planner.specs.Left.{AreNear, rows_from}
-use Rattle.strip_planner.proofs.Numbers.{read_back}
-use Rattle.strip_planner.proofs.Rows.{ordered, pieces_none, pieces_are}
+use Rattle.strip_planner.proofs.Rows.{pieces_none, pieces_are}
 use Rattle.strip_planner.proofs.Walks.{left, left_first}
 use Rattle.strip_planner.proofs.piece_walk.Pieces.over.Goals as goal
+use Rattle.clip_regions.proofs.Numbers.{read_back}
+use Rattle.plan_sound.proofs.Parts.{ordered}
 
 pub returns-then-is_empty : goal.returns-then-is_empty
 returns-then-is_empty c =

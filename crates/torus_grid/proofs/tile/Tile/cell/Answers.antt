@@ -5,8 +5,8 @@ use mir.Syntax.{w16}
 use mir.Val.{SFits}
 use Rattle.clip_regions.specs.FloorDivision.{floor_rem}
 use Rattle.torus_grid.specs.Places.{tile_height}
-use Rattle.torus_grid.proofs.Numbers.{read_back}
 use Rattle.torus_grid.proofs.tile.Tile.cell.Goals as goal
+use Rattle.clip_regions.proofs.Numbers.{read_back}
 
 pub returns : goal.returns
 unfolding tile_height

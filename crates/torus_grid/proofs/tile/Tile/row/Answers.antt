@@ -3,9 +3,9 @@ use Rattle.std.specs.List.{range_with_len}
 use mathlib.Core.Path.{ap₂}
 use Rattle.clip_regions.specs.FloorDivision.{floor_rem}
 use Rattle.torus_grid.specs.Places.{tile_height}
-use Rattle.torus_grid.proofs.Numbers.{read_back}
 use Rattle.torus_grid.proofs.TileRows.{row_is}
 use Rattle.torus_grid.proofs.tile.Tile.row.Goals as goal
+use Rattle.clip_regions.proofs.Numbers.{read_back}
 
 pub returns : goal.returns
 returns c =

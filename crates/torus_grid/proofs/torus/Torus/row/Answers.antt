@@ -6,9 +6,9 @@ use Rattle.plan_model.specs.Blocks.{tile_of_cell}
 use Rattle.plan_model.specs.declared.tiles.TileId.{TileId}
 use Rattle.torus_grid.specs.Places.{tile_height}
 use Rattle.torus_grid.specs.Grids.{Grid, tile_at, is_home}
-use Rattle.torus_grid.proofs.Numbers.{read_back}
 use Rattle.torus_grid.proofs.RowHeights.{row_heights}
 use Rattle.torus_grid.proofs.torus.Torus.row.Goals as goal
+use Rattle.clip_regions.proofs.Numbers.{read_back}
 
 pub tile-requires : goal.tile-requires
 tile-requires c =

@@ -37,6 +37,13 @@ gap_holds (pos a) (negsuc b) u h = absurd (omega arith)
 gap_holds (negsuc a) (pos b) u h = omega (arith, ints)
 gap_holds (negsuc a) (negsuc b) u h = omega (arith, ints)
 
+-- and what reaches its end
+pub gap_ends : (a b : ℤ) (u : ℕ) → 0 < int_gap a b → u ≤ int_gap a b → (a +ℤ pos u) ≤ℤ b
+gap_ends (pos a) (pos b) u some h = omega (arith, ints)
+gap_ends (pos a) (negsuc b) u some h = absurd (omega arith)
+gap_ends (negsuc a) (pos b) u some h = omega (arith, ints)
+gap_ends (negsuc a) (negsuc b) u some h = omega (arith, ints)
+
 -- the way from one number to another that isn't below it
 pub way_is : (a b d : ℤ) → d ≡ b -ℤ a → pos 0 ≤ℤ d → nat_abs d ≡ int_gap a b
 way_is a b d e h =
