@@ -1,11 +1,11 @@
 -- Rows of samples that are read one after another while their voids are filled, and the square that they make.
-use Rattle.std.proofs.Common.{◌≡◌, ℕ, ℤ, pos, zero, suc, ◌+◌, ◌-◌, ◌*◌, ◌<◌, ◌≤◌, ◌^◌, Bool, true, false, not, cond, [], ◌∷◌, ◌++◌, List, length, get_or, map, flat_map, find, reverse, take, drop, Option, Some, None, unwrap_or, option_map, count_by, All, FitsSigned, append_assoc, zero-add, ap, ◌∙◌, sym, subst, refl, arith}
+use Rattle.std.proofs.Common.{◌≡◌, ℕ, ℤ, pos, zero, suc, ◌+◌, ◌-◌, ◌*◌, ◌<◌, ◌≤◌, ◌^◌, Bool, true, false, not, ◌||◌, cond, [], ◌∷◌, ◌++◌, List, length, get_or, map, flat_map, find, reverse, take, drop, Option, Some, None, unwrap_or, option_map, count_by, fold, All, FitsSigned, append_assoc, zero-add, ap, ◌∙◌, sym, subst, refl, arith}
 use Rattle.std.specs.Int.{w16}
 use Rattle.std.specs.Option.{option_or}
-use Rattle.std.specs.List.{range_with_len}
+use Rattle.std.specs.List.{range_with_len, list_any}
 use Rattle.std.proofs.lemmas.List.{take_more, reverse-append, take-append-drop, flat_map_more}
-use Rattle.std.proofs.lemmas.List.Folds.{find-append}
-use Rattle.std.proofs.lemmas.List.FromFn.{map-range_with_len_more, length-map-range_with_len, get_or-map-range_with_len}
+use Rattle.std.proofs.lemmas.List.Folds.{find-append, list_any-append, list_any_at}
+use Rattle.std.proofs.lemmas.List.FromFn.{fill_by_all, map-range_with_len_more, length-map-range_with_len, get_or-map-range_with_len}
 use Rattle.std.proofs.lemmas.List.Sums.{sum_by_push, sum_by-append}
 use Rattle.terrain_model.specs.Terrain.{Terrain, IsTerrain}
 use Rattle.terrain_model.specs.Voids.{is_void, first_known, known_at, without_voids}
@@ -143,6 +143,66 @@ pub row_filled : (base : List ℤ) (bytes : List ℕ) (first side : ℕ) (new : 
 unfolding without_voids
 row_filled base bytes first side new whole =
     whole ∙ ap (λ n. base ++ map (known_at (samples_from bytes first side)) (range_with_len 0 n)) (sym (samples_count bytes first side))
+
+-- ---- a row without voids
+pub no_samples : (bytes : List ℕ) (first : ℕ) → false ≡ list_any is_void (samples_from bytes first 0)
+unfolding samples_from
+no_samples bytes first = refl
+
+pub any_more : (bytes : List ℕ) (first n : ℕ) (before here : Bool) → before ≡ list_any is_void (samples_from bytes first n) → here ≡ is_void (raw_sample bytes (first + n)) →
+    (before || here) ≡ list_any is_void (samples_from bytes first (n + 1))
+unfolding samples_from
+any_more bytes first n before here e h =
+    (λ t. e t || h t)
+    ∙ ap (λ b. list_any is_void (map (raw_sample bytes) (range_with_len first n)) || b) (alone (is_void (raw_sample bytes (first + n))))
+    ∙ sym (ap (list_any is_void) (map-range_with_len_more (raw_sample bytes) first n (first + n) refl)
+    ∙ list_any-append is_void (map (raw_sample bytes) (range_with_len first n)) (raw_sample bytes (first + n) ∷ []))
+  where
+    alone : (b : Bool) → b ≡ (b || false)
+    alone true = refl
+    alone false = refl
+
+shifted : (f : ℕ → ℤ) (first a n : ℕ) → map (λ k. f (first + k)) (range_with_len a n) ≡ map f (range_with_len (first + a) n)
+shifted f first a zero = refl
+shifted f first a (suc n) =
+    let e : first + (a + 1) ≡ first + a + 1 = omega arith in
+    ap (λ xs. f (first + a) ∷ xs) (shifted f first (a + 1) n ∙ ap (λ b. map f (range_with_len b n)) e)
+
+pub samples_read : (bytes : List ℕ) (first count : ℕ) (row : List ℤ) → length row ≡ count → ((k : ℕ) → k < count → get_or row k (pos 0) ≡ raw_sample bytes (first + k)) → row ≡ samples_from bytes first count
+unfolding samples_from
+samples_read bytes first count row long each =
+    let e : first + 0 ≡ first = omega arith in
+    fill_by_all (λ k. raw_sample bytes (first + k)) row count (pos 0) long each ∙ shifted (raw_sample bytes) first 0 count ∙ ap (λ a. map (raw_sample bytes) (range_with_len a count)) e
+
+known_of : (row : List ℤ) (n : ℕ) → list_any is_void row ≡ false → n < length row → is_void (get_or row n (pos 0)) ≡ false
+known_of row n none inside =
+    elim (is_void (get_or row n (pos 0))) as (λ b. is_void (get_or row n (pos 0)) ≡ b → b ≡ false) [
+      | true ↦ λ e. let some : list_any is_void row ≡ true = list_any_at is_void row n (pos 0) inside e in cc
+      | false ↦ λ e. refl
+    ] refl
+
+-- stands as it is
+pub plain_row : (row : List ℤ) → list_any is_void row ≡ false → row ≡ without_voids row
+unfolding without_voids
+plain_row row none =
+    fill_by_all (known_at row) row (length row) (pos 0) refl
+    (λ n inside. latest_known row n (first_known row) inside (known_of row n none inside) ∙ latest_stands row n)
+
+-- and none of it is counted
+counted_from : (a : ℕ) (row : List ℤ) → list_any is_void row ≡ false → a ≡ fold (λ n x. n + cond (is_void x) 1 0) a row
+counted_from a [] none = refl
+counted_from a (x ∷ xs) none =
+    let same : a ≡ a + 0 = omega arith in
+    elim (is_void x) as (λ b. (b || list_any is_void xs) ≡ false → a ≡ fold (λ n y. n + cond (is_void y) 1 0) (a + cond b 1 0) xs) [
+      | true ↦ λ h. absurd (not_both h)
+      | false ↦ λ h. counted_from a xs h ∙ ap (λ n. fold (λ m y. m + cond (is_void y) 1 0) n xs) same
+    ] none
+  where
+    not_both : true ≡ false → ⊥
+    not_both e = cc
+
+pub none_counted : (row : List ℤ) → list_any is_void row ≡ false → 0 ≡ count_by is_void row
+none_counted row none = counted_from 0 row none
 
 range_more : (a n : ℕ) → range_with_len a (n + 1) ≡ range_with_len a n ++ (a + n) ∷ []
 range_more a zero = let e : a + 0 ≡ a = omega arith in rw e refl

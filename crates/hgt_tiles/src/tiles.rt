@@ -1,6 +1,7 @@
 //! The bytes of HGT tiles.
 
 ghost use Rattle.std.specs.Prelude.{◌≡◌, ℕ, ◌+◌, ◌*◌, ◌<◌, ◌≤◌, ◌++◌, length, pos, count_by, IfSome, IfOk, IfErr, OnOk, Some, None, slice_range};
+ghost use Rattle.std.specs.List.{list_any};
 ghost use Rattle.terrain_model.specs.Voids.{is_void, first_known, without_voids};
 ghost use Rattle.terrain_model.specs.Tile.{raw_sample, samples_from, side_of_length, tile_terrain, void_count};
 ghost use Rattle.hgt_tiles.specs.TileView.{tile_of_bytes, IsTile};
@@ -94,6 +95,14 @@ impl HgtTile {
         let first = y as usize * self.side as usize;
         &self.heights[first..first + self.side as usize]
     }
+
+    /// All heights in metres, row by row from the north and each row from west to east.
+    pub fn into_heights(self) -> Vec<i16>
+        ensures { result.items ≡ self.terrain.table }
+    {
+        let HgtTile { heights, .. } = self;
+        heights
+    }
 }
 
 // The heights of a tile, and how many of its samples are voids.
@@ -152,16 +161,57 @@ fn read_samples(alloc: Global, bytes: &[u8], side: u32) -> Result<Samples, Alloc
 {
     let side = side as usize;
     let mut heights = Vec::with_capacity(alloc, side * side)?;
+    let mut row = vec![in alloc; 0i16; side]?;
     let mut voids = 0u64;
     for v in 0..side {
-        voids += append_row(bytes, v * side, side, &mut heights)?;
+        voids += append_row(bytes, v * side, side, row.as_mut_slice(), &mut heights)?;
     }
     Ok(Samples { heights, voids })
 }
 
-// Appends the heights of the row of `side` samples from sample `first` on, with its voids filled. Gives how many
-// voids it has.
+// Appends the heights of the row of `side` samples from sample `first` on, with its voids filled, by way of a row of
+// that length. Gives how many voids it has: mostly none, and then the samples are the heights.
 fn append_row(
+    bytes: &[u8],
+    first: usize,
+    side: usize,
+    row: &mut [i16],
+    heights: &mut Vec<i16>,
+) -> Result<u64, AllocError>
+    requires side { side ≤ 3601 }
+    requires whole { 2 * (first + side) ≤ length bytes.now }
+    requires row { length row.old ≡ side }
+    ensures row { length row.new ≡ side }
+    ensures heights { OnOk result (heights.new.items ≡ heights.old.items ++ without_voids (samples_from bytes.now first side)) }
+    ensures voids { IfOk result (λ voids. voids ≡ count_by is_void (samples_from bytes.now first side)) }
+    ensures few { IfOk result (λ voids. voids ≤ side) }
+{
+    if read_row(bytes, first, row) {
+        return append_filled(bytes, first, side, heights);
+    }
+    heights.extend_from_slice(row)?;
+    Ok(0)
+}
+
+// Reads the row of samples from sample `first` on as they stand. Is one of them a void?
+fn read_row(bytes: &[u8], first: usize, row: &mut [i16]) -> bool
+    requires side { length row.old ≤ 3601 }
+    requires whole { 2 * (first + length row.old) ≤ length bytes.now }
+    ensures row { row.new ≡ samples_from bytes.now first (length row.old) }
+    ensures voids { result ≡ list_any is_void (samples_from bytes.now first (length row.old)) }
+{
+    let mut has_void = false;
+    for n in 0..row.len() {
+        let sample = sample_at(bytes, first + n);
+        row[n] = sample;
+        has_void = has_void | is_void(sample);
+    }
+    has_void
+}
+
+// Appends the heights of the row of `side` samples from sample `first` on, each void filled. Gives how many voids
+// it has.
+fn append_filled(
     bytes: &[u8],
     first: usize,
     side: usize,

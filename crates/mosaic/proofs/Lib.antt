@@ -4,3 +4,4 @@ pub mod Owners
 pub mod Twins
 pub mod Judging
 pub mod Joined
+pub mod Alone

@@ -31,7 +31,7 @@ unfolding left_of mosaic_width samples_across placed
 left_inside bounds tile h p =
     columns_fit (int_gap bounds.west tile.corner.lon) (int_gap bounds.west bounds.east) (bounds.side - 1) bounds.side (gap_grows bounds.west tile.corner.lon bounds.east p.west p.east) (omega (arith, h.low))
 
-among : (first count n : ℕ) → first ≤ n → n < first + count → is_among first count n ≡ true
+pub among : (first count n : ℕ) → first ≤ n → n < first + count → is_among first count n ≡ true
 unfolding is_among
 among first count n low high =
     let a : leb first n ≡ true = grind (arith, nat_tests) in

@@ -1,6 +1,6 @@
 //! Tiles joined into one grid.
 
-ghost use Rattle.std.specs.Prelude.{◌≡◌, ◌⊎◌, ◌≤◌, ◌*◌, ◌^◌, [], map, All, IfOk, IfErr, OnOk, Some, None, IsNone, option_map};
+ghost use Rattle.std.specs.Prelude.{◌≡◌, ◌⊎◌, ◌≤◌, ◌*◌, ◌^◌, ◌∷◌, [], map, All, IfOk, IfErr, OnOk, Some, None, IsNone, option_map};
 ghost use Rattle.std.specs.List.{list_any};
 ghost use Rattle.terrain_model.specs.Mosaic.{bounds_of, tiles_terrain, mosaic_width, mosaic_height};
 ghost use Rattle.hgt_tiles.specs.TileView.{placed};
@@ -20,18 +20,29 @@ use terrain_model::Corner;
 /// The grid is the rectangle of degrees round all tiles. Neighbouring tiles share the samples of their edge: a sample
 /// comes from the northernmost tile that covers it, and of these from the westernmost, and is 0 where none does. The
 /// refusals are judged in the order of `MosaicFault`: no tile, a corner that two tiles have, a side that isn't the
-/// first tile's, more than 2^26 samples, no memory.
-pub fn join(alloc: Global, tiles: Vec<HgtTile>) -> Result<Grid, MosaicFault>
+/// first tile's, more than 2^26 samples, no memory. One tile alone gives up its heights, and no copy of them is made.
+pub fn join(alloc: Global, mut tiles: Vec<HgtTile>) -> Result<Grid, MosaicFault>
     ensures terrain { IfOk result (λ grid. grid ≡ tiles_terrain (map placed tiles.items)) }
     ensures accepted { OnOk result (mosaic_fault tiles.items ≡ None) }
     ensures fault { IfErr result (λ fault. (fault ≡ MosaicFault.NoMemory) ⊎ (mosaic_fault tiles.items ≡ Some fault)) }
 {
     let extent = judge(tiles.as_slice())?;
+    if tiles.len() == 1 {
+        return Ok(grid_of(tiles.remove(0)));
+    }
     let sorted = sorted_for_painting(tiles);
     match paint(alloc, &extent, sorted.as_slice()) {
         Ok(heights) => Ok(Grid::new(extent.width() as u32, extent.height() as u32, heights)),
         Err(_) => Err(MosaicFault::NoMemory),
     }
+}
+
+// The grid of one tile alone.
+fn grid_of(tile: HgtTile) -> Grid
+    ensures { result ≡ tiles_terrain (placed tile ∷ []) }
+{
+    let side = tile.side();
+    Grid::new(side, side, tile.into_heights())
 }
 
 // The rectangle round some tiles, where they make a grid.

@@ -1,3 +1,4 @@
 pub mod Appended
 pub mod Levels
 pub mod Samples
+pub mod Digits

@@ -1,8 +1,9 @@
 //! The lines of a frame's text, each appended to one growing buffer.
 
-ghost use Rattle.std.specs.Prelude.{◌≡◌, ◌+◌, ◌*◌, ◌<◌, ◌++◌, OnOk, List, decimal};
+ghost use Rattle.std.specs.Prelude.{◌≡◌, ◌+◌, ◌*◌, ◌<◌, ◌++◌, OnOk, List, decimal, true, ◌↔◌};
 ghost use Rattle.std.specs.Fmt.{signed_decimal};
 ghost use Rattle.mesh_model.specs.Text.{frame_line, viewer_line, level_line, region_text, sign_text, five_digits, height_text, vertex_line, triangle_line};
+ghost use Rattle.obj_frames.specs.Digits.{HasSix, three_digits as three_of, six_digits as six_of, numbers_line};
 
 use crate::memory::NoMemory;
 use clip_regions::Region;
@@ -80,7 +81,72 @@ pub(crate) fn append_vertex(
     append(text, b"\n")
 }
 
-// Appends the line of a triangle.
+// The three digits of a number below 1000.
+fn three_digits(number: u32) -> [u8; 3]
+    requires { number < 1000 }
+    ensures { result ≡ three_of number }
+{
+    let rest = number % 100;
+    [
+        b'0' + (number / 100) as u8,
+        b'0' + (rest / 10) as u8,
+        b'0' + (rest % 10) as u8,
+    ]
+}
+
+// The six digits of a number that has so many.
+fn six_digits(number: u64) -> [u8; 6]
+    requires { HasSix number }
+    ensures { result ≡ six_of number }
+{
+    let [a, b, c] = three_digits((number / 1000) as u32);
+    let [d, e, f] = three_digits((number % 1000) as u32);
+    [a, b, c, d, e, f]
+}
+
+// Whether a number has six digits.
+fn has_six(number: u64) -> bool
+    ensures { result ≡ true ↔ HasSix number }
+{
+    100_000 <= number && number < 1_000_000
+}
+
+// The line of a triangle whose three numbers have six digits each.
+fn long_line(first: u64, second: u64, third: u64) -> [u8; 23]
+    requires first { HasSix first }
+    requires second { HasSix second }
+    requires third { HasSix third }
+    ensures { result ≡ numbers_line first second third }
+{
+    let [a, b, c, d, e, f] = six_digits(first);
+    let [g, h, i, j, k, l] = six_digits(second);
+    let [m, n, o, p, q, r] = six_digits(third);
+    [
+        b'f', b' ', a, b, c, d, e, f, b' ', g, h, i, j, k, l, b' ', m, n, o, p, q, r, b'\n',
+    ]
+}
+
+// Appends the line of a triangle whose vertices have these numbers, piece by piece.
+fn append_numbers(
+    text: &mut Vec<u8>,
+    digits: &mut Buffer,
+    first: u64,
+    second: u64,
+    third: u64,
+) -> Result<(), NoMemory>
+    ensures { OnOk result (text.new.items ≡ text.old.items ++ numbers_line first second third) }
+{
+    append(text, b"f ")?;
+    append_number(text, digits, first)?;
+    append(text, b" ")?;
+    append_number(text, digits, second)?;
+    append(text, b" ")?;
+    append_number(text, digits, third)?;
+    append(text, b"\n")
+}
+
+// Appends the line of a triangle, at once where its numbers have six digits each, as most of a large mesh have.
+#[tactic(auto, unfolding(mesh_model::specs::Text::triangle_line, crate::specs::Digits::numbers_line))]
 pub(crate) fn append_triangle(
     text: &mut Vec<u8>,
     digits: &mut Buffer,
@@ -88,13 +154,13 @@ pub(crate) fn append_triangle(
 ) -> Result<(), NoMemory>
     ensures { OnOk result (text.new.items ≡ text.old.items ++ triangle_line triangle.now) }
 {
-    append(text, b"f ")?;
-    append_number(text, digits, u64::from(triangle[0]) + 1)?;
-    append(text, b" ")?;
-    append_number(text, digits, u64::from(triangle[1]) + 1)?;
-    append(text, b" ")?;
-    append_number(text, digits, u64::from(triangle[2]) + 1)?;
-    append(text, b"\n")
+    let first = u64::from(triangle[0]) + 1;
+    let second = u64::from(triangle[1]) + 1;
+    let third = u64::from(triangle[2]) + 1;
+    if has_six(first) && has_six(second) && has_six(third) {
+        return append(text, &long_line(first, second, third));
+    }
+    append_numbers(text, digits, first, second, third)
 }
 
 // Appends the line of the frame's number.

@@ -1,19 +1,12 @@
 -- The squares of a ring, and their rows.
-use Rattle.std.specs.Prelude.{ℕ, ◌^◌, ℤ, pos, ◌+ℤ◌, ◌≤ℤ◌, List, flat_map}
+use Rattle.std.specs.Prelude.{ℕ, ◌^◌, pos, ◌+ℤ◌, ◌≤ℤ◌, List, flat_map}
 use Rattle.std.specs.List.{range_with_len}
 use Rattle.clip_regions.specs.declared.region.Region.{Region}
 use Rattle.clip_regions.specs.Regions.{columns, IsWithin}
 use Rattle.mesh_laws.specs.declared.ring.Ring.{Ring}
 use Rattle.mesh_laws.specs.Rings.{ring_square}
 
--- the four corners of the square with this north-west corner are cells of the region
-pub record HasSquare (r : Region) (i j : ℤ) : Type 0 where
-  pub west : r.x0 ≤ℤ i
-  pub east : (i +ℤ pos 1) ≤ℤ r.x1
-  pub north : r.y0 ≤ℤ j
-  pub south : (j +ℤ pos 1) ≤ℤ r.y1
-
--- and so for all squares with these north-west corners
+-- the four corners of the squares with these north-west corners are cells of the region
 pub record HasSquares (r squares : Region) : Type 0 where
   pub near : IsWithin (2 ^ 24) r
   pub placed : IsWithin (2 ^ 25) squares

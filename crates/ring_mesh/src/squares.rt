@@ -1,11 +1,10 @@
 //! The triangles of squares, row by row.
 
-ghost use Rattle.std.specs.Prelude.{◌≡◌, ◌+◌, ◌^◌, ◌<◌, ◌≤◌, ◌++◌, OnOk, flat_map, pos, ◌+ℤ◌, ◌≤ℤ◌};
-ghost use Rattle.std.specs.List.{range_with_len};
-ghost use Rattle.clip_regions.specs.Regions.{IsWithin, columns as columns_of, rows as rows_of};
-ghost use Rattle.mesh_laws.specs.Rings.{ring_square, ring_triangles};
-ghost use Rattle.mesh_laws.specs.Conditions.{IsCell, AreLinked};
-ghost use Rattle.ring_mesh.specs.Squares.{HasSquare, HasSquares, square_row};
+ghost use Rattle.std.specs.Prelude.{◌≡◌, ◌^◌, ◌<◌, ◌≤◌, ◌++◌, ◌∷◌, [], OnOk, pos, ◌+ℤ◌};
+ghost use Rattle.clip_regions.specs.Regions.{columns as columns_of, rows as rows_of};
+ghost use Rattle.mesh_laws.specs.Rings.{corner_of, ring_triangles};
+ghost use Rattle.mesh_laws.specs.Conditions.{AreLinked};
+ghost use Rattle.ring_mesh.specs.Squares.{HasSquares, square_row};
 
 use crate::places::corner;
 use crate::sizes::{columns, rows};
@@ -13,52 +12,47 @@ use clip_regions::Region;
 use mesh_laws::Ring;
 use std::alloc::AllocError;
 
-// The two triangles of a square, by its north-west corner.
-#[tactic(auto, unfolding(mesh_laws::specs::Rings::ring_square))]
-fn square(finer: &Ring, ring: &Ring, i: i32, j: i32) -> [[u32; 3]; 2]
-    requires linked { AreLinked finer.now ring.now }
-    requires square { HasSquare ring.now.active i j }
-    ensures { result ≡ ring_square finer.now ring.now i j }
-{
-    let north_west = corner(finer, ring, i, j);
-    let south_west = corner(finer, ring, i, j + 1);
-    let south_east = corner(finer, ring, i + 1, j + 1);
-    let north_east = corner(finer, ring, i + 1, j);
-    [
-        [north_west, south_west, south_east],
-        [north_west, south_east, north_east],
-    ]
+// The places of the vertices at both ends of a square's western or eastern side.
+#[derive(Clone, Copy)]
+struct Edge {
+    north: u32,
+    south: u32,
 }
 
-// Adds two triangles.
-fn add_two(triangles: &mut Vec<[u32; 3]>, two: &[[u32; 3]; 2]) -> Result<(), AllocError>
-    ensures { OnOk result (triangles.new.items ≡ triangles.old.items ++ two.now) }
-{
-    triangles.extend_from_slice(two)
-}
-
-// Adds the triangles of square `u` of a row of squares, counted from the west.
-fn add_square(
-    triangles: &mut Vec<[u32; 3]>,
-    finer: &Ring,
-    ring: &Ring,
-    squares: &Region,
-    v: u32,
-    u: u32,
-) -> Result<(), AllocError>
+// The side from the cell in column `u` of row `v` of some squares, counted from their north-west corner, to
+// the cell south of it.
+fn side_at(finer: &Ring, ring: &Ring, squares: &Region, v: u32, u: u32) -> Edge
     requires linked { AreLinked finer.now ring.now }
     requires squares { HasSquares ring.now.active squares.now }
-    requires column { u < columns_of squares.now }
+    requires some { 0 < columns_of squares.now }
+    requires column { u ≤ columns_of squares.now }
     requires row { v < rows_of squares.now }
-    requires few_columns { u < 2 ^ 28 }
+    requires few_columns { u ≤ 2 ^ 27 }
     requires few_rows { v < 2 ^ 28 }
-    ensures { OnOk result (triangles.new.items ≡ triangles.old.items ++ ring_square finer.now ring.now (squares.now.x0 +ℤ pos u) (squares.now.y0 +ℤ pos v)) }
+    ensures north { result.north ≡ corner_of finer.now ring.now (squares.now.x0 +ℤ pos u) (squares.now.y0 +ℤ pos v) }
+    ensures south { result.south ≡ corner_of finer.now ring.now (squares.now.x0 +ℤ pos u) ((squares.now.y0 +ℤ pos v) +ℤ pos 1) }
 {
-    let two = square(finer, ring, squares.x0 + u as i32, squares.y0 + v as i32);
-    add_two(triangles, &two)
+    let i = squares.x0 + u as i32;
+    let j = squares.y0 + v as i32;
+    Edge {
+        north: corner(finer, ring, i, j),
+        south: corner(finer, ring, i, j + 1),
+    }
 }
 
-// Adds the triangles of row `v` of some squares, from the west.
+// Adds the two triangles of the square between two sides.
+fn add_square(triangles: &mut Vec<[u32; 3]>, west: &Edge, east: &Edge) -> Result<(), AllocError>
+    ensures { OnOk result (triangles.new.items ≡ triangles.old.items
+        ++ (west.now.north ∷ west.now.south ∷ east.now.south ∷ []) ∷ (west.now.north ∷ east.now.south ∷ east.now.north ∷ []) ∷ []) }
+{
+    triangles.extend_from_slice(&[
+        [west.north, west.south, east.south],
+        [west.north, east.south, east.north],
+    ])
+}
+
+// Adds the triangles of row `v` of some squares, from the west. The eastern side of each square is the
+// western one of the next.
 #[tactic(auto, unfolding(crate::specs::Squares::square_row))]
 fn add_row(
     triangles: &mut Vec<[u32; 3]>,
@@ -73,8 +67,15 @@ fn add_row(
     requires few_rows { v < 2 ^ 28 }
     ensures { OnOk result (triangles.new.items ≡ triangles.old.items ++ square_row finer.now ring.now squares.now v) }
 {
-    for u in 0..columns(squares) {
-        add_square(triangles, finer, ring, squares, v, u)?;
+    let width = columns(squares);
+    if width == 0 {
+        return Ok(());
+    }
+    let mut west = side_at(finer, ring, squares, v, 0);
+    for u in 0..width {
+        let east = side_at(finer, ring, squares, v, u + 1);
+        add_square(triangles, &west, &east)?;
+        west = east;
     }
     Ok(())
 }

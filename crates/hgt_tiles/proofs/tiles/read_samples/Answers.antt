@@ -1,4 +1,4 @@
-use Rattle.std.proofs.Common.{◌≡◌, ℕ, ◌≤◌, ◌*◌, ◌+◌, subst, flat_map, count_by, ap, ◌∙◌, arith}
+use Rattle.std.proofs.Common.{◌≡◌, ℕ, ◌≤◌, ◌*◌, ◌+◌, subst, flat_map, count_by, ap, ◌∙◌, arith, rules}
 use Rattle.std.specs.List.{range_with_len}
 use Rattle.terrain_model.specs.Voids.{is_void, without_voids}
 use Rattle.terrain_model.specs.Tile.{tile_row, tile_terrain, void_count}
@@ -13,6 +13,7 @@ loop-v-preserved c =
     record {
       heights = rows_more (λ v. without_voids (tile_row bytes side v)) v c.loop-v.heights.items c.append_row.new.heights.items c.loop-v.invariant.heights c.in_ok-voids.ensures.heights;
       voids = counted_more (tile_row bytes side) v c.loop-v.voids c.in_ok-voids.field-0 c.loop-v.invariant.voids c.in_ok-voids.ensures.voids;
+      row = search rules;
       few_voids = (let e : (v + 1) * side ≡ v * side + side = grind arith in omega (arith, e, c.loop-v.invariant.few_voids, c.in_ok-voids.ensures.few));
     }
 

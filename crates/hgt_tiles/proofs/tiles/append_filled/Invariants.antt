@@ -3,7 +3,7 @@ use Rattle.std.specs.List.{range_with_len}
 use Rattle.terrain_model.specs.Voids.{is_void, first_known, known_at}
 use Rattle.terrain_model.specs.Tile.{samples_from}
 use Rattle.hgt_tiles.proofs.TileLemmas.{latest}
-use Rattle.hgt_tiles.proofs.tiles.append_row.Given as goal
+use Rattle.hgt_tiles.proofs.tiles.append_filled.Given as goal
 
 abbrev pub invariant-loop-n : goal.invariant-loop-n
 invariant-loop-n l =
