@@ -5,13 +5,12 @@
 #
 #     viewer/test.sh [TILE X Y]
 #
-# TILE is an HGT tile and (X, Y) a viewer on it. Without them the measured terrain of Debian's package
-# python-matplotlib-data is made into one. CLIPMAP may name another program to draw with than ../clipmap.
+# TILE is an HGT tile and (X, Y) a viewer on it; without them it is the sample tile and a viewer in its middle. CLIPMAP
+# may name another program to draw with than ../clipmap.
 set -euo pipefail
 top=$(cd "$(dirname "${BASH_SOURCE[0]}")/.." && pwd)
 program=${CLIPMAP:-$top/clipmap}
 out=$top/viewer/out
-measured=/usr/share/matplotlib/mpl-data/sample_data/jacksboro_fault_dem.npz
 
 missing() {
     echo "viewer/test.sh: $1 is missing. Install it, on Debian by: apt-get install $2" >&2
@@ -21,35 +20,15 @@ missing() {
 command -v python3 >/dev/null || missing python3 python3
 browser=$(command -v chromium || command -v chromium-browser || command -v google-chrome) ||
     missing "the browser Chromium" chromium
-[ $# -eq 3 ] || [ -e "$measured" ] || missing "the measured terrain $measured" python-matplotlib-data
 
 work=$(mktemp -d)
 trap 'rm -rf "$work"' EXIT
 mkdir -p "$out"
 rm -f "$out"/*.png
 
-if [ $# -eq 3 ]; then
-    tile=$(basename "$1") x=$2 y=$3
-    cp "$1" "$work/$tile"
-else
-    tile=N36W085.hgt x=172 y=172
-    # The heights are an array of NumPy's format in a zip file, wider than high. A tile is square, here their eastern
-    # part, and has big-endian numbers.
-    python3 - "$measured" "$work/$tile" <<'PY'
-import array, ast, sys, zipfile
-data = zipfile.ZipFile(sys.argv[1]).read('elevation.npy')
-begin = 10 + int.from_bytes(data[8:10], 'little')
-header = ast.literal_eval(data[10:begin].decode())
-assert header['descr'] == '<i2' and not header['fortran_order'], header
-rows, columns = header['shape']
-heights = array.array('h', data[begin:])
-if sys.byteorder == 'little':
-    heights.byteswap()
-with open(sys.argv[2], 'wb') as tile:
-    for row in range(rows):
-        heights[(row + 1) * columns - rows:(row + 1) * columns].tofile(tile)
-PY
-fi
+[ $# -eq 3 ] || set -- "$top/examples/N36W085.hgt" 172 172
+tile=$(basename "$1") x=$2 y=$3
+cp "$1" "$work/$tile"
 cd "$work"
 
 # Draws a frame NAME.obj of K and L at a viewer, and keeps the line that the program prints as NAME.line.

@@ -4,7 +4,7 @@ ghost use Rattle.std.specs.Prelude.{◌≡◌, ◌-◌, ◌^◌, ◌<◌, ◌≤
 ghost use Rattle.clip_regions.specs.Regions.{empty_region, IsWithin, IsPlaced};
 ghost use Rattle.plan_model.specs.Limits.{IsSize, IsLevelCount};
 ghost use Rattle.plan_model.specs.Laws.{AllIn};
-ghost use Rattle.plan_model.specs.Actives.{drawable, inner, active_of, actives as actives_of};
+ghost use Rattle.plan_model.specs.Actives.{drawable, inner, active_of, actives};
 ghost use Rattle.plan_model.specs.Window.{margin};
 ghost use Rattle.active_region.specs.Active.{AreFilled, IsNearOrEmpty, AreDrawn};
 
@@ -97,7 +97,7 @@ fn twelve(filled: &[Region], k: u8, finest: u8) -> [Region; 12]
     requires many { length filled.now ≤ 12 }
     requires finest { finest < length filled.now }
     requires filled { All IsNearOrEmpty filled.now }
-    ensures value { result ≡ actives_of k finest filled.now ++ replicate (12 - length filled.now) empty_region }
+    ensures value { result ≡ actives k finest filled.now ++ replicate (12 - length filled.now) empty_region }
 {
     let mut regions = [Region::empty(); 12];
     let count = filled.len();
@@ -119,7 +119,9 @@ pub fn actives(filled: &[Region], k: u8, finest: u8) -> Actives
     requires many { IsLevelCount (length filled.now) }
     requires finest { finest < length filled.now }
     requires filled { AreFilled k filled.now }
-    ensures value { result ≡ actives_of k finest filled.now }
+
+    // They are those of the definition, can be drawn, and each lies in its filled region.
+    ensures value { result ≡ actives k finest filled.now }
     ensures drawn { AreDrawn k result }
     ensures filled { AllIn filled.now result }
 {

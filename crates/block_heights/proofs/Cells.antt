@@ -20,12 +20,8 @@ use Rattle.clip_regions.specs.Regions.{contains, columns, rows}
 use Rattle.block_heights.specs.Rows.{signed_cell, table_code, cell_of}
 use Rattle.block_heights.specs.Pieces.{IsPieceUpTo, AreNearUpTo, IsOutCell, HasOut, IsSmall, Lies, within, plain_height, column_of, row_of}
 use Rattle.terrain_model.specs.Tile.{raw_sample}
-
-tested_le : (a b : ℤ) → le_z a b ≡ true → a ≤ℤ b
-tested_le a b e = omega (arith, ints)
-
-le_tested : (a b : ℤ) → a ≤ℤ b → le_z a b ≡ true
-le_tested a b h = grind (arith, ints)
+use Rattle.clip_regions.proofs.Cells.{tested_le, le_tested}
+use Rattle.clip_regions.proofs.Sizes.{gap_is}
 
 pub lies : (r : Region) (i j : ℤ) → contains r i j ≡ true → Lies r i j
 unfolding contains
@@ -48,12 +44,6 @@ lying r i j h =
     (and_from (le_z r.y0 j) (le_z j r.y1) (le_tested r.y0 j h.north) (le_tested j r.y1 h.south))
 
 -- ---- columns and rows
-gap_is : (a b : ℤ) → a ≤ℤ b → pos (int_gap a b) ≡ b -ℤ a
-gap_is (pos a) (pos b) h = omega (arith, ints)
-gap_is (pos a) (negsuc b) h = absurd (omega (arith, ints))
-gap_is (negsuc a) (pos b) h = omega (arith, ints)
-gap_is (negsuc a) (negsuc b) h = omega (arith, ints)
-
 pub columns_is : (r : Region) → r.x0 ≤ℤ r.x1 → pos (columns r) ≡ (r.x1 +ℤ pos 1) -ℤ r.x0
 unfolding columns
 columns_is r h = gap_is r.x0 (r.x1 +ℤ pos 1) (omega (arith, ints))

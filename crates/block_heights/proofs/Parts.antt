@@ -15,19 +15,12 @@ use Rattle.block_heights.specs.declared.block.PieceFault.{PieceFault}
 use Rattle.block_heights.specs.declared.block.PieceFault.TheVariants.{BadBlock, OutOfRange}
 use Rattle.block_heights.specs.Pieces.{IsSmall, IsInPatch, HasOut}
 use Rattle.block_heights.specs.Decoded.{IsPartOf, IsPart, IsNearZero, IsPatchOf, HasWordFault}
+use Rattle.clip_regions.proofs.Gaps.{gap_none}
+use Rattle.clip_regions.proofs.Cells.{tested_lt}
 
 pub area_is : (r : Region) → area r ≡ columns r * rows r
 unfolding area
 area_is r = refl
-
-gap_none : (a b : ℤ) → b ≤ℤ a → int_gap a b ≡ 0
-gap_none (pos a) (pos b) h = omega (arith, ints)
-gap_none (pos a) (negsuc b) h = omega (arith, ints)
-gap_none (negsuc a) (pos b) h = absurd (omega (arith, ints))
-gap_none (negsuc a) (negsuc b) h = omega (arith, ints)
-
-tested_lt : (a b : ℤ) → lt_z a b ≡ true → a <ℤ b
-tested_lt a b e = omega (arith, ints)
 
 either : (a b : Bool) → (a || b) ≡ true → (a ≡ true) ⊎ (b ≡ true)
 either true b e = inl refl

@@ -34,7 +34,7 @@ pub enum Kind<'a> {
 pub enum PieceFault {
     /// The block's bytes are no word of its codes, or not as many as its plain heights.
     BadBlock { fault: BlockFault },
-    /// The cell in column `i` and row `j` is the first of the piece whose value, in metres, is no height of 16 bits and not
-    /// within half a step of one.
+    /// The cell in column `i` and row `j` is the first of the piece whose value, in metres, is no height of 16 bits and
+    /// not within half a step of one.
     OutOfRange { i: i32, j: i32, value: i32 },
 }

@@ -9,7 +9,7 @@ ghost use Rattle.block_heights.specs.Rows.{coded_columns, row_values, table_valu
 
 use clip_regions::Region;
 
-/// Is `z` odd?
+// Is `z` odd?
 #[tactic(auto, unfolding(clip_regions::specs::FloorDivision::floor_rem))]
 #[inline]
 fn is_even(z: i32) -> bool
@@ -27,7 +27,7 @@ pub fn is_coded(i: i32, j: i32) -> bool
     !(is_even(i) && is_even(j))
 }
 
-/// Whether a code stands for the cell in column `a` and row `b` of a region.
+// Whether a code stands for the cell in column `a` and row `b` of a region.
 #[inline]
 fn is_coded_in(region: Region, a: usize, b: usize) -> bool
     requires placed { IsPlaced region }
@@ -45,20 +45,24 @@ pub(crate) struct Sides {
     pub(crate) rows: usize,
 }
 
-/// The codes of a row of cells, each in its column, and how many there are.
+// The codes of a row of cells, each in its column, and how many there are.
 #[derive(Clone, Copy)]
 struct CodeRow {
     codes: [i32; 8],
     used: usize,
 }
 
-/// Puts the first codes into the columns of row `b` of a region that have coded cells.
+// Puts the first codes into the columns of row `b` of a region that have coded cells.
 fn code_row(values: &[i32], region: Region, b: usize, width: usize) -> CodeRow
     requires placed { IsPlaced region }
     requires width { width ≤ 8 }
     requires row { b ≤ 8 }
+
+    // There is a value for each coded cell of the row.
     requires enough { length (coded_columns region b width) ≤ length values.now }
     requires in_range { All IsResidual values.now }
+
+    // The first values stand in their columns, and 0 in the others.
     ensures used { result.used ≡ length (coded_columns region b width) }
     ensures codes { row_values region b width result.codes ≡ take result.used values.now }
     ensures even { IsCodeRow region b result.codes }
@@ -80,9 +84,13 @@ pub(crate) fn code_table(values: &[i32], region: Region, sides: Sides) -> [[i32;
     requires placed { IsPlaced region }
     requires width { sides.columns ≤ 8 }
     requires height { sides.rows ≤ 8 }
+
+    // There is one value for each coded cell.
     requires count { length values.now ≡ coded_before region sides.columns sides.rows }
     requires few { length values.now ≤ 64 }
     requires in_range { All IsResidual values.now }
+
+    // Row by row the table has these values, and 0 in the other cells.
     ensures codes { table_values region sides.columns sides.rows result ≡ values.now }
     ensures even { (b : ℕ) → IsCodeRow region b (slice_index_or result b []) }
     ensures in_range { (b : ℕ) → HasCodes (slice_index_or result b []) }
@@ -98,7 +106,7 @@ pub(crate) fn code_table(values: &[i32], region: Region, sides: Sides) -> [[i32;
     table
 }
 
-/// How many codes a row of a region has.
+// How many codes a row of a region has.
 fn row_count(region: Region, b: usize, width: usize) -> u8
     requires placed { IsPlaced region }
     requires width { width ≤ 8 }

@@ -1,7 +1,7 @@
 //! The heights of a piece of a store's block, from the block's bytes and a patch of coarser heights.
 //!
-//! This is the one place where a block is decoded: for a reader of stores, and for whoever fills pieces of a level. No call
-//! takes memory.
+//! This is the one place where a block is decoded: for a reader of stores, and for whoever fills pieces of a level. No
+//! call takes memory.
 #![tactic(auto)]
 
 mod block;

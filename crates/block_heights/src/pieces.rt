@@ -26,6 +26,8 @@ pub(crate) fn sides_of(region: Region) -> Sides
     requires { IsSmall region }
     ensures columns { result.columns ≡ columns region }
     ensures rows { result.rows ≡ rows region }
+
+    // Each is 1 to 8.
     ensures some_columns { 1 ≤ result.columns }
     ensures few_columns { result.columns ≤ 8 }
     ensures some_rows { 1 ≤ result.rows }
@@ -37,14 +39,14 @@ pub(crate) fn sides_of(region: Region) -> Sides
     }
 }
 
-/// A cell of a level.
+// A cell of a level.
 #[derive(Clone, Copy)]
 struct Cell {
     i: i32,
     j: i32,
 }
 
-/// Cell `k` of a region, row by row from the north and each row from the west.
+// Cell `k` of a region, row by row from the north and each row from the west.
 fn cell_at(region: Region, k: usize) -> Cell
     requires region { IsSmall region }
     requires inside { k < columns region * rows region }
@@ -59,7 +61,7 @@ fn cell_at(region: Region, k: usize) -> Cell
     }
 }
 
-/// Is the value a height of 16 bits or within half a step of one?
+// Is the value a height of 16 bits or within half a step of one?
 fn is_near(value: i32, step: u8) -> bool
     ensures { IsTrue result ↔ IsNear step value }
 {
@@ -67,19 +69,21 @@ fn is_near(value: i32, step: u8) -> bool
     -32768 - half <= value && value <= 32767 + half
 }
 
-/// How many columns and rows a cell lies after the first of its region.
+// How many columns and rows a cell lies after the first of its region.
 #[derive(Clone, Copy)]
 struct Place {
     a: usize,
     b: usize,
 }
 
-/// Where a cell lies in its region.
+// Where a cell lies in its region.
 fn place_in(region: Region, cell: Cell) -> Place
     requires region { IsSmall region }
     requires inside { Lies region cell.i cell.j }
     ensures column { cell.i ≡ region.x0 +ℤ pos result.a }
     ensures row { cell.j ≡ region.y0 +ℤ pos result.b }
+
+    // Both are below the region's sides, and so below 8.
     ensures in_columns { result.a < columns region }
     ensures in_rows { result.b < rows region }
     ensures few_columns { result.a < 8 }
@@ -91,7 +95,7 @@ fn place_in(region: Region, cell: Cell) -> Place
     }
 }
 
-/// The code of a cell of a region, by a table whose first column and row are those of the region.
+// The code of a cell of a region, by a table whose first column and row are those of the region.
 fn code_at(table: &[[i32; 8]; 8], region: Region, cell: Cell) -> i32
     requires region { IsSmall region }
     requires inside { Lies region cell.i cell.j }
@@ -104,7 +108,7 @@ fn code_at(table: &[[i32; 8]; 8], region: Region, cell: Cell) -> i32
     table[place.b][place.a]
 }
 
-/// The block of which a piece is filled: its patch of coarser heights, its codes, its cells in the terrain and its step.
+// The block of which a piece is filled: its patch of coarser heights, its codes, its cells in the terrain and its step.
 #[derive(Clone, Copy)]
 struct Codes<'a> {
     patch: &'a Patch,
@@ -113,15 +117,22 @@ struct Codes<'a> {
     step: u8,
 }
 
-/// The height of a cell, 0 outside the terrain.
+// The height of a cell, 0 outside the terrain.
 fn height_at(codes: Codes<'_>, cell: Cell) -> Result<i16, PieceFault>
     requires inside { IsSmall codes.inside }
     requires patch { IsInPatch codes.patch.now codes.inside }
     requires step { IsStep codes.step }
     requires in_range { (b : ℕ) → HasCodes (slice_index_or codes.table.now b []) }
-    ensures height { IfOk result (λ h. h ≡ within codes.entry.inside (coded_height (patch_height codes.entry.patch.now) codes.entry.step (table_code codes.entry.inside codes.entry.table.now)) cell.i cell.j) }
-    ensures near { OnOk result (IsTrue (contains codes.entry.inside cell.i cell.j) → IsNear codes.entry.step (value_of (patch_height codes.entry.patch.now) codes.entry.step cell.i cell.j (table_code codes.entry.inside codes.entry.table.now cell.i cell.j))) }
-    ensures far { IfErr result (IsOutCell (patch_height codes.entry.patch.now) codes.entry.step (table_code codes.entry.inside codes.entry.table.now) codes.entry.inside cell.i cell.j) }
+
+    // It is the height of the definition, whose value is near one of 16 bits; or the cell's value is not.
+    ensures height { IfOk result (λ h. h ≡
+        within codes.entry.inside (coded_height (patch_height codes.entry.patch.now) codes.entry.step
+        (table_code codes.entry.inside codes.entry.table.now)) cell.i cell.j) }
+    ensures near { OnOk result (IsTrue (contains codes.entry.inside cell.i cell.j) →
+        IsNear codes.entry.step (value_of (patch_height codes.entry.patch.now) codes.entry.step cell.i cell.j
+        (table_code codes.entry.inside codes.entry.table.now cell.i cell.j))) }
+    ensures far { IfErr result (IsOutCell (patch_height codes.entry.patch.now) codes.entry.step
+        (table_code codes.entry.inside codes.entry.table.now) codes.entry.inside cell.i cell.j) }
 {
     if !codes.inside.contains(cell.i, cell.j) {
         return Ok(0);
@@ -138,17 +149,25 @@ fn height_at(codes: Codes<'_>, cell: Cell) -> Result<i16, PieceFault>
     Ok(bring(value))
 }
 
-/// Writes the heights of a piece's cells, row by row.
+// Writes the heights of a piece's cells, row by row.
 fn fill_coded(codes: Codes<'_>, cells: Region, out: &mut [i16]) -> Result<(), PieceFault>
     requires inside { IsSmall codes.inside }
     requires patch { IsInPatch codes.patch.now codes.inside }
     requires step { IsStep codes.step }
     requires in_range { (b : ℕ) → HasCodes (slice_index_or codes.table.now b []) }
+
+    // There are as many places as cells.
     requires cells { IsSmall cells }
     requires places { length out.old ≡ columns cells * rows cells }
-    ensures heights { OnOk result (IsPieceUpTo (length out.new) (within codes.entry.inside (coded_height (patch_height codes.entry.patch.now) codes.entry.step (table_code codes.entry.inside codes.entry.table.now))) cells out.new) }
-    ensures near { OnOk result (AreNearUpTo (length out.new) (patch_height codes.entry.patch.now) codes.entry.step (table_code codes.entry.inside codes.entry.table.now) codes.entry.inside cells) }
-    ensures far { IfErr result (HasOut (patch_height codes.entry.patch.now) codes.entry.step (table_code codes.entry.inside codes.entry.table.now) codes.entry.inside cells (length out.old)) }
+
+    // They are the heights of the definition, or the first cell is named whose value is near none of 16 bits.
+    ensures heights { OnOk result (IsPieceUpTo (length out.new) (within codes.entry.inside
+        (coded_height (patch_height codes.entry.patch.now) codes.entry.step
+        (table_code codes.entry.inside codes.entry.table.now))) cells out.new) }
+    ensures near { OnOk result (AreNearUpTo (length out.new) (patch_height codes.entry.patch.now) codes.entry.step
+        (table_code codes.entry.inside codes.entry.table.now) codes.entry.inside cells) }
+    ensures far { IfErr result (HasOut (patch_height codes.entry.patch.now) codes.entry.step
+        (table_code codes.entry.inside codes.entry.table.now) codes.entry.inside cells (length out.old)) }
 {
     for k in 0..out.len() {
         match height_at(codes, cell_at(cells, k)) {
@@ -159,7 +178,7 @@ fn fill_coded(codes: Codes<'_>, cells: Region, out: &mut [i16]) -> Result<(), Pi
     Ok(())
 }
 
-/// Number `n` of those that stand in two bytes each, the high byte first.
+// Number `n` of those that stand in two bytes each, the high byte first.
 #[tactic(auto, unfolding(terrain_model::specs::Tile::raw_sample, terrain_model::specs::Tile::signed_pair))]
 fn number_at(bytes: &[u8], n: usize) -> i16
     requires { 2 * n + 1 < length bytes.now }
@@ -168,7 +187,7 @@ fn number_at(bytes: &[u8], n: usize) -> i16
     BigEndian::read_i16(&bytes[2 * n..])
 }
 
-/// The height of a cell by the bytes of a plain block, 0 outside the terrain.
+// The height of a cell by the bytes of a plain block, 0 outside the terrain.
 fn plain_at(bytes: &[u8], inside: Region, cell: Cell) -> i16
     requires inside { IsSmall inside }
     requires whole { length bytes.now ≡ 2 * (columns inside * rows inside) }
@@ -182,7 +201,7 @@ fn plain_at(bytes: &[u8], inside: Region, cell: Cell) -> i16
     number_at(bytes, place.b * width + place.a)
 }
 
-/// Writes the heights of a piece's cells of a plain block, row by row.
+// Writes the heights of a piece's cells of a plain block, row by row.
 fn fill_plain(bytes: &[u8], inside: Region, cells: Region, out: &mut [i16])
     requires inside { IsSmall inside }
     requires whole { length bytes.now ≡ 2 * (columns inside * rows inside) }
@@ -195,7 +214,7 @@ fn fill_plain(bytes: &[u8], inside: Region, cells: Region, out: &mut [i16])
     }
 }
 
-/// The heights of a piece of a block of codes.
+// The heights of a piece of a block of codes.
 fn word_piece(
     bytes: &[u8],
     inside: Region,
@@ -208,8 +227,12 @@ fn word_piece(
     requires inside { IsSmall inside }
     requires patch { IsInPatch patch.now inside }
     requires step { IsStep step }
+
+    // There are as many places as cells.
     requires cells { 0 < length out.old → IsSmall cells }
     requires places { length out.old ≡ columns cells * rows cells }
+
+    // They are the heights of the definition, or the first fault is named.
     ensures heights { OnOk result (HasCodedHeights (patch_height patch.now) step inside cells bytes.now out.new) }
     ensures fault { IfErr result (HasWordFault (patch_height patch.now) step inside cells bytes.now (length out.old)) }
 {
@@ -231,7 +254,7 @@ fn word_piece(
     fill_coded(codes, cells, out)
 }
 
-/// The fault of the bytes of a plain block of so many cells, if they have one.
+// The fault of the bytes of a plain block of so many cells, if they have one.
 fn plain_fault(bytes: &[u8], cells: usize) -> Option<BlockFault>
     requires bytes { length bytes.now < 65536 }
     requires cells { cells ≤ 64 }
@@ -251,7 +274,7 @@ fn plain_fault(bytes: &[u8], cells: usize) -> Option<BlockFault>
     None
 }
 
-/// The heights of a piece of a plain block.
+// The heights of a piece of a plain block.
 fn plain_piece(
     bytes: &[u8],
     inside: Region,
@@ -260,10 +283,15 @@ fn plain_piece(
 ) -> Result<(), PieceFault>
     requires bytes { length bytes.now < 65536 }
     requires inside { IsSmall inside }
+
+    // There are as many places as cells.
     requires cells { 0 < length out.old → IsSmall cells }
     requires places { length out.old ≡ columns cells * rows cells }
+
+    // They are the heights of the definition, or the length's fault is named.
     ensures whole { OnOk result (length bytes.now ≡ 2 * area inside) }
-    ensures heights { OnOk result (IsPieceUpTo (length out.new) (within inside (plain_height bytes.now inside)) cells out.new) }
+    ensures heights { OnOk result (IsPieceUpTo (length out.new) (within inside
+        (plain_height bytes.now inside)) cells out.new) }
     ensures fault { IfErr result (λ fault. HasPlainPieceFault (area inside) bytes.now fault) }
 {
     let sides = sides_of(inside);
@@ -276,7 +304,7 @@ fn plain_piece(
     Ok(())
 }
 
-/// Writes a 0 for each cell.
+// Writes a 0 for each cell.
 fn fill_zeros(out: &mut [i16], cells: Region)
     ensures { IsPieceUpTo (length out.new) (λ i j. pos 0) cells out.new }
 {
@@ -286,7 +314,8 @@ fn fill_zeros(out: &mut [i16], cells: Region)
 }
 
 /// The heights of some cells of a block, row by row from the north and each row from the west, in metres; 0 outside the
-/// terrain. `patch` is the block's patch of coarser heights. After a refusal nothing is said of `out`. No memory is taken.
+/// terrain. `patch` is the block's patch of coarser heights. After a refusal nothing is said of `out`. No memory is
+/// taken.
 pub fn piece_heights(
     block: &Block<'_>,
     patch: &Patch,
@@ -296,10 +325,15 @@ pub fn piece_heights(
     requires placed { IsNearZero block.now.bx block.now.by }
     requires kind { HasKind block.now.kind block.now.bx block.now.by block.now.inside patch.now }
     requires step { IsStep block.now.step }
+
+    // There are as many places as cells.
     requires cells { IsPart block.now.bx block.now.by cells }
     requires places { length out.old ≡ area cells }
+
+    // They are the heights of the definition, or the first fault is named.
     ensures heights { OnOk result (HasHeights block.now.kind patch.now block.now.step block.now.inside cells out.new) }
-    ensures fault { IfErr result (HasPieceFault block.now.kind patch.now block.now.step block.now.inside cells (length out.old)) }
+    ensures fault { IfErr result (HasPieceFault block.now.kind patch.now block.now.step block.now.inside cells
+        (length out.old)) }
 {
     match block.kind {
         Kind::Outside => {

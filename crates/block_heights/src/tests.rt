@@ -19,7 +19,7 @@ const PATCH: Patch = Patch {
     h: [[0; 7]; 7],
 };
 
-/// What a word of a block of 3 x 3 cells over coarser heights of 0 is decoded to.
+// What a word of a block of 3 x 3 cells over coarser heights of 0 is decoded to.
 #[tactic(auto, unfolding(clip_regions::specs::Regions::area, clip_regions::specs::Regions::columns, clip_regions::specs::Regions::rows))]
 fn words(bytes: &[u8; 8], step: u8) -> Result<[i16; 9], PieceFault>
     requires { IsStep step }
@@ -37,7 +37,7 @@ fn words(bytes: &[u8; 8], step: u8) -> Result<[i16; 9], PieceFault>
     Ok(out)
 }
 
-/// What a plain block of 3 x 3 cells is decoded to.
+// What a plain block of 3 x 3 cells is decoded to.
 #[tactic(auto, unfolding(clip_regions::specs::Regions::area, clip_regions::specs::Regions::columns, clip_regions::specs::Regions::rows))]
 fn plain(bytes: &[u8]) -> Result<[i16; 9], PieceFault>
     requires { length bytes.now < 100 }

@@ -71,12 +71,12 @@ residual_size coarser i j height short fits =
 doubled : (n : ℕ) → pos 2 *ℤ negsuc n ≡ negsuc (2 * n + 1)
 doubled n = omega (arith, ints)
 
-even_rem : (a : ℤ) → floor_rem (pos 2 *ℤ a) 2 ≡ 0
+pub even_rem : (a : ℤ) → floor_rem (pos 2 *ℤ a) 2 ≡ 0
 unfolding floor_rem
 even_rem (pos n) = omega arith
 even_rem (negsuc n) = rw (doubled n) (omega arith)
 
-even_div : (a : ℤ) → floor_div (pos 2 *ℤ a) 2 ≡ a
+pub even_div : (a : ℤ) → floor_div (pos 2 *ℤ a) 2 ≡ a
 unfolding floor_div
 even_div (pos n) = ap pos (omega arith)
 even_div (negsuc n) = rw (doubled n) (ap negsuc (omega arith))

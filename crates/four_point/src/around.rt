@@ -20,7 +20,7 @@ pub trait Heights {
         ensures { result ≡ heights self.now a b };
 }
 
-/// Seven heights of row `b`, from column `i0` on.
+// Seven heights of row `b`, from column `i0` on.
 fn row_around<H: Heights>(heights: &H, i0: i32, b: i32) -> [i16; 7]
     requires column { IsPlace i0 }
     requires last_column { IsPlace (i0 +ℤ pos 6) }
@@ -44,6 +44,8 @@ pub fn patch_around<H: Heights>(heights: &H, i0: i32, j0: i32) -> Patch
     requires last_column { IsPlace (i0 +ℤ pos 6) }
     requires row { IsPlace j0 }
     requires last_row { IsPlace (j0 +ℤ pos 6) }
+
+    // It has its place, and predicts what the heights predict.
     ensures column { result.i0 ≡ i0 }
     ensures row { result.j0 ≡ j0 }
     ensures predictions { (i j : ℤ) → IsOfBlock i0 i → IsOfBlock j0 j

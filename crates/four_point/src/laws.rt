@@ -12,8 +12,8 @@ pub fn even_residual()
     ensures { EvenResidual }
 {}
 
-/// A cell with both coordinates even is predicted as the coarser height, and the predictions of a block's cells depend on
-/// the heights of its patch alone.
+/// A cell with both coordinates even is predicted as the coarser height, and the predictions of a block's cells depend
+/// on the heights of its patch alone.
 pub fn predictions()
     ensures even { EvenPrediction }
     ensures patch { PredictionFromPatch }

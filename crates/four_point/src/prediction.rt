@@ -47,7 +47,7 @@ pub fn restore(patch: &Patch, i: i32, j: i32, residual: i32) -> i32
     predict(patch, i, j) + residual
 }
 
-/// Half of `z`, rounded down.
+// Half of `z`, rounded down.
 #[tactic(auto, unfolding(clip_regions::specs::FloorDivision::floor_div))]
 fn half(z: i32) -> i32
     ensures value { result ≡ floor_div z 2 }
@@ -57,7 +57,7 @@ fn half(z: i32) -> i32
     z.div_euclid(2)
 }
 
-/// Is `z` odd?
+// Is `z` odd?
 #[tactic(auto, unfolding(clip_regions::specs::FloorDivision::floor_rem))]
 fn is_odd(z: i32) -> bool
     ensures { floor_rem z 2 ≡ (if result then 1 else 0) }
@@ -65,7 +65,7 @@ fn is_odd(z: i32) -> bool
     z.rem_euclid(2) == 1
 }
 
-/// A sixteenth of a weighted sum, rounded once to the nearest whole number, halves up.
+// A sixteenth of a weighted sum, rounded once to the nearest whole number, halves up.
 #[tactic(auto, unfolding(clip_regions::specs::FloorDivision::floor_div))]
 fn rounded_over_16(sum: i32) -> i32
     requires { IsAtMost 655360 sum }
@@ -75,7 +75,7 @@ fn rounded_over_16(sum: i32) -> i32
     (sum + 8).div_euclid(16)
 }
 
-/// One part in 256 of a sum of sixteen, rounded once to the nearest whole number, halves up.
+// One part in 256 of a sum of sixteen, rounded once to the nearest whole number, halves up.
 #[tactic(auto, unfolding(clip_regions::specs::FloorDivision::floor_div))]
 fn rounded_over_256(sum: i32) -> i32
     requires { IsAtMost 13107200 sum }

@@ -10,7 +10,8 @@ use crate::patch::Patch;
 use crate::prediction::{predict, residual};
 use clip_regions::floor_div;
 
-/// How many steps the height at cell (`i`, `j`) of a patch's block lies above its prediction, to the nearest whole number.
+/// How many steps the height at cell (`i`, `j`) of a patch's block lies above its prediction, to the nearest whole
+/// number.
 ///
 /// `step` is odd, and in metres. The height is within half a step of the prediction and so many steps.
 #[tactic(auto, unfolding(crate::specs::Steps::code_of))]
@@ -24,7 +25,7 @@ pub fn code_by(patch: &Patch, i: i32, j: i32, height: i16, step: u8) -> i32
     steps_in(residual(patch, i, j, height), step)
 }
 
-/// How many steps a distance has, to the nearest whole number.
+// How many steps a distance has, to the nearest whole number.
 fn steps_in(distance: i32, step: u8) -> i32
     requires distance { IsAtMost 100000 distance }
     requires step { IsStep step }

@@ -17,7 +17,7 @@ pub(crate) fn height_of(patch: &Patch, a: i32, b: i32) -> i32
     i32::from(patch.h[(b - patch.j0) as usize][(a - patch.i0) as usize])
 }
 
-/// Four values by the weights -1, 9, 9 and -1.
+// Four values by the weights -1, 9, 9 and -1.
 #[tactic(auto, unfolding(crate::specs::Prediction::weighted))]
 fn weighted(before: i32, near: i32, far: i32, beyond: i32) -> i32
     requires before { IsAtMost 655360 before }
@@ -25,7 +25,8 @@ fn weighted(before: i32, near: i32, far: i32, beyond: i32) -> i32
     requires far { IsAtMost 655360 far }
     requires beyond { IsAtMost 655360 beyond }
     ensures value { result ≡ weighted before near far beyond }
-    ensures size { (n : ℕ) → IsAtMost n before → IsAtMost n near → IsAtMost n far → IsAtMost n beyond → IsAtMost (20 * n) result }
+    ensures size { (n : ℕ) → IsAtMost n before → IsAtMost n near → IsAtMost n far → IsAtMost n beyond →
+        IsAtMost (20 * n) result }
 {
     9 * (near + far) - (before + beyond)
 }

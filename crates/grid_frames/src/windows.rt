@@ -3,7 +3,7 @@
 ghost use Rattle.std.specs.Prelude.{◌≡◌, ◌++◌, ◌-◌, ◌≤◌, replicate};
 ghost use Rattle.clip_regions.specs.Regions.{empty_region};
 ghost use Rattle.plan_model.specs.Limits.{IsSize, IsLevelCount, IsViewed};
-ghost use Rattle.grid_frames.specs.Whole.{whole_windows as windows_of, whole_regions as regions_of};
+ghost use Rattle.grid_frames.specs.Whole.{whole_regions, whole_windows};
 
 use active_region::{Actives, actives};
 use clip_regions::Region;
@@ -25,7 +25,7 @@ fn twelve_windows(k: u8, levels: u8, viewer: &Viewer) -> [Region; 12]
     requires levels { levels ≤ 12 }
     requires x { IsViewed viewer.now.x }
     requires y { IsViewed viewer.now.y }
-    ensures { result ≡ windows_of k levels viewer.now.x viewer.now.y ++ replicate (12 - levels) empty_region }
+    ensures { result ≡ whole_windows k levels viewer.now.x viewer.now.y ++ replicate (12 - levels) empty_region }
 {
     let mut windows = [Region::empty(); 12];
     for level in 0..levels {
@@ -40,7 +40,7 @@ pub fn whole_regions(k: u8, levels: u8, viewer: &Viewer) -> Actives
     requires levels { IsLevelCount levels }
     requires x { IsViewed viewer.now.x }
     requires y { IsViewed viewer.now.y }
-    ensures value { result ≡ regions_of k levels viewer.now.x viewer.now.y }
+    ensures value { result ≡ whole_regions k levels viewer.now.x viewer.now.y }
 {
     windows_have_even_corners();
     let windows = twelve_windows(k, levels, viewer);

@@ -23,7 +23,8 @@ impl Model for Grid {
 
     ghost view = { λ g. record { width = g.width; height = g.height; table = g.heights.items } };
 
-    ghost invariant = { λ g. IsGrid (record { width = g.width; height = g.height; table = g.heights.items }) g.least g.most };
+    ghost invariant = { λ g. IsGrid
+        (record { width = g.width; height = g.height; table = g.heights.items }) g.least g.most };
 }
 
 impl Grid {
@@ -37,6 +38,8 @@ impl Grid {
         requires rows { 1 ≤ height }
         requires samples { width * height ≤ 2 ^ 26 }
         requires whole { vec_len heights ≡ width * height }
+
+        // The grid is the terrain of these numbers.
         ensures width { result.width ≡ width }
         ensures height { result.height ≡ height }
         ensures table { result.table ≡ heights.items }
@@ -110,7 +113,7 @@ impl Grid {
         self.sample(i * spacing, j * spacing)
     }
 
-    /// The height at column `x` and row `y`, and 0 outside the grid.
+    // The height at column `x` and row `y`, and 0 outside the grid.
     #[tactic(auto, unfolding(terrain_model::specs::Terrain::height_at))]
     fn sample(&self, x: i32, y: i32) -> i16
         ensures { result ≡ height_at self.now x y }
@@ -127,7 +130,7 @@ impl Grid {
     }
 }
 
-/// The distance in samples of two cells of a level, 0 to 11, that are next to each other.
+// The distance in samples of two cells of a level, 0 to 11, that are next to each other.
 fn spacing(level: u8) -> i32
     requires { level ≤ 11 }
     ensures { result ≡ pos (2 ^ level) }

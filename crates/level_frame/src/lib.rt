@@ -64,6 +64,8 @@ pub fn margin(k: u8) -> i32
 fn center(level: u8, v: i32) -> i32
     requires level { level ≤ 11 }
     requires v { IsViewed v }
+
+    // It is the centre of the definition, within one spacing of the viewer.
     ensures value { result ≡ center level v }
     ensures low { neg_ℤ (pos 8388609) ≤ℤ result }
     ensures high { result ≤ℤ pos 8388609 }
@@ -81,7 +83,11 @@ pub fn window(k: u8, level: u8, x: i32, y: i32) -> Region
     requires level { level ≤ 11 }
     requires x { IsViewed x }
     requires y { IsViewed y }
+
+    // It is the window of the definition.
     ensures value { result ≡ window k level x y }
+
+    // Its corners are even, its sides those of the size, and it lies where the levels reach.
     ensures placed { IsPlaced result }
     ensures even { HasEvenCorners result }
     ensures not_empty { is_empty result ≡ false }

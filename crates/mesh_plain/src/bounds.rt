@@ -1,7 +1,7 @@
 //! The bounds of a part.
 
 ghost use Rattle.std.specs.Prelude.{◌≡◌, ◌++◌, IfOk, OnOk, map, flat_map, pos, get_or};
-ghost use Rattle.mesh_model.specs.Mesh.{least as least_of, greatest as greatest_of, vertices_of as corners_of, bounds_of as box_of};
+ghost use Rattle.mesh_model.specs.Mesh.{bounds_of, greatest, least, vertices_of};
 ghost use Rattle.mesh_plain.specs.Corners.{vertex_named};
 
 use mesh_model::{Bounds, Vertex};
@@ -17,7 +17,7 @@ fn first_or_zero(numbers: &[i32]) -> i32
 
 /// The least of some numbers, or 0 where there is none.
 pub fn least(numbers: &[i32]) -> i32
-    ensures value { result ≡ least_of numbers.now }
+    ensures value { result ≡ least numbers.now }
 {
     let mut found = first_or_zero(numbers);
     for number in numbers {
@@ -28,7 +28,7 @@ pub fn least(numbers: &[i32]) -> i32
 
 /// The greatest of some numbers, or 0 where there is none.
 pub fn greatest(numbers: &[i32]) -> i32
-    ensures value { result ≡ greatest_of numbers.now }
+    ensures value { result ≡ greatest numbers.now }
 {
     let mut found = first_or_zero(numbers);
     for number in numbers {
@@ -68,7 +68,7 @@ pub fn vertices_of(
     vertices: &[Vertex],
     triangles: &[[u32; 3]],
 ) -> Result<Vec<Vertex>, NoMemory>
-    ensures value { IfOk result (λ found. found.items ≡ corners_of vertices.now triangles.now) }
+    ensures value { IfOk result (λ found. found.items ≡ vertices_of vertices.now triangles.now) }
 {
     let mut found = Vec::new(alloc);
     for triangle in triangles {
@@ -100,7 +100,7 @@ fn heights(alloc: Global, vertices: &[Vertex]) -> Result<Vec<i32>, AllocError>
 
 /// The least and greatest column, row and height of some vertices.
 pub fn bounds_of(alloc: Global, vertices: &[Vertex]) -> Result<Bounds, NoMemory>
-    ensures value { IfOk result (λ bounds. bounds ≡ box_of vertices.now) }
+    ensures value { IfOk result (λ bounds. bounds ≡ bounds_of vertices.now) }
 {
     let columns = columns(alloc, vertices)?;
     let rows = rows(alloc, vertices)?;

@@ -2,7 +2,8 @@
 
 ghost use Rattle.std.specs.Prelude.{◌≡◌, ◌+◌, ◌^◌, ◌<◌, ◌++◌, map, IfOk, OnOk, pos, ◌+ℤ◌};
 ghost use Rattle.std.specs.List.{range_with_len};
-ghost use Rattle.clip_regions.specs.Regions.{columns as columns_of, rows as rows_of, cells as cells_of, IsWithin};
+ghost use Rattle.clip_regions.specs.Regions;
+ghost use Rattle.clip_regions.specs.Regions.{IsWithin, columns, rows};
 ghost use Rattle.mesh_plain.specs.Cells.{cell_in, named};
 
 use clip_regions::Region;
@@ -13,7 +14,7 @@ use std::alloc::{AllocError, Global};
 // How many columns a region has.
 pub(crate) fn columns(region: &Region) -> u32
     requires { IsWithin (2 ^ 24) region.now }
-    ensures value { result ≡ columns_of region.now }
+    ensures value { result ≡ columns region.now }
     ensures few { result < 2 ^ 26 }
 {
     if region.x1 < region.x0 {
@@ -26,7 +27,7 @@ pub(crate) fn columns(region: &Region) -> u32
 // How many rows a region has.
 pub(crate) fn rows(region: &Region) -> u32
     requires { IsWithin (2 ^ 24) region.now }
-    ensures value { result ≡ rows_of region.now }
+    ensures value { result ≡ rows region.now }
     ensures few { result < 2 ^ 26 }
 {
     if region.y1 < region.y0 {
@@ -54,7 +55,8 @@ pub(crate) fn cell_at(level: u8, region: &Region, v: u32, u: u32) -> Cell
 fn add_row(cells: &mut Vec<Cell>, level: u8, region: &Region, v: u32) -> Result<(), AllocError>
     requires placed { IsWithin (2 ^ 24) region.now }
     requires row { v < 2 ^ 26 }
-    ensures { OnOk result (cells.new.items ≡ cells.old.items ++ map (cell_in level region.now v) (range_with_len 0 (columns_of region.now))) }
+    ensures { OnOk result (cells.new.items ≡ cells.old.items ++
+        map (cell_in level region.now v) (range_with_len 0 (columns region.now))) }
 {
     for u in 0..columns(region) {
         cells.push(cell_at(level, region, v, u))?;
@@ -65,7 +67,7 @@ fn add_row(cells: &mut Vec<Cell>, level: u8, region: &Region, v: u32) -> Result<
 /// The cells of a region with their level, row by row, each row from the west.
 pub fn region_cells(alloc: Global, level: u8, region: &Region) -> Result<Vec<Cell>, NoMemory>
     requires { IsWithin (2 ^ 24) region.now }
-    ensures value { IfOk result (λ cells. cells.items ≡ map (named level) (cells_of region.now)) }
+    ensures value { IfOk result (λ cells. cells.items ≡ map (named level) (Regions.cells region.now)) }
 {
     let mut cells = Vec::new(alloc);
     for v in 0..rows(region) {

@@ -2,7 +2,7 @@
 
 ghost use Rattle.std.specs.Prelude.{◌≡◌, ◌+◌, ◌^◌, ◌<◌, ◌≤◌, ◌++◌, ◌∷◌, [], IfOk, OnOk, flat_map, length};
 ghost use Rattle.plan_model.specs.Limits.{IsSize};
-ghost use Rattle.mesh_model.specs.Mesh.{part_at as part_in_mesh, parts_from, mesh_of_parts as mesh_with, mesh as mesh_of};
+ghost use Rattle.mesh_model.specs.Mesh.{parts_from, mesh_of_parts, part_at, mesh};
 ghost use Rattle.mesh_model.specs.Vertices.{listed_vertices};
 ghost use Rattle.mesh_plain.specs.Frames.{AreDrawn};
 
@@ -65,7 +65,7 @@ pub fn part_at(
     part: &PlainPart,
 ) -> Result<Part, NoMemory>
     requires few { length part.now.triangles < 2 ^ 31 }
-    ensures value { IfOk result (λ found. found ≡ part_in_mesh vertices.now first part.now) }
+    ensures value { IfOk result (λ found. found ≡ part_at vertices.now first part.now) }
 {
     let triangles = part.triangles();
     let corners = vertices_of(alloc, vertices, triangles)?;
@@ -96,7 +96,7 @@ fn add_part_at(
     part: &PlainPart,
 ) -> Result<(), NoMemory>
     requires few { length part.now.triangles < 2 ^ 31 }
-    ensures { OnOk result (listed.new.items ≡ listed.old.items ++ part_in_mesh vertices.now first part.now ∷ []) }
+    ensures { OnOk result (listed.new.items ≡ listed.old.items ++ part_at vertices.now first part.now ∷ []) }
 {
     let found = part_at(alloc, vertices, first, part)?;
     push_part(listed, found)?;
@@ -154,7 +154,7 @@ pub fn mesh_of_parts(
     parts: &[PlainPart],
 ) -> Result<PlainMesh, NoMemory>
     requires few { length (flat_map (λ part. part.triangles) parts.now) < 2 ^ 31 }
-    ensures value { IfOk result (λ mesh. mesh ≡ mesh_with vertices.items parts.now) }
+    ensures value { IfOk result (λ mesh. mesh ≡ mesh_of_parts vertices.items parts.now) }
 {
     let listed = listed_parts(alloc, vertices.as_slice(), parts)?;
     let triangles = all_triangles(alloc, parts)?;
@@ -175,8 +175,8 @@ pub fn mesh(alloc: Global, terrain: &Grid, k: u8, actives: &[Region]) -> Result<
     requires levels { length actives.now ≤ 12 }
     requires drawn { AreDrawn 0 actives.now }
     requires few_vertices { length (listed_vertices actives.now) < 2 ^ 31 }
-    requires few_triangles { length (mesh_of terrain.now k actives.now).triangles < 2 ^ 31 }
-    ensures value { IfOk result (λ mesh. mesh ≡ mesh_of terrain.now k actives.now) }
+    requires few_triangles { length (mesh terrain.now k actives.now).triangles < 2 ^ 31 }
+    ensures value { IfOk result (λ found. found ≡ mesh terrain.now k actives.now) }
 {
     let vertices = mesh_vertices(alloc, terrain, k, actives)?;
     let parts = parts_of_regions(alloc, vertices.as_slice(), actives)?;

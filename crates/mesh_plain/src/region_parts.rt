@@ -23,7 +23,8 @@ fn add_squares(
     requires few { length vertices.now < 2 ^ 31 }
     requires levels { length actives.now ≤ 12 }
     requires drawn { AreDrawn 0 actives.now }
-    ensures { OnOk result (parts.new.items ≡ parts.old.items ++ square_parts_from vertices.now 0 empty_region actives.now) }
+    ensures { OnOk result (parts.new.items ≡ parts.old.items ++
+        square_parts_from vertices.now 0 empty_region actives.now) }
 {
     let mut finer = Region::empty();
     let mut level = 0;
@@ -47,7 +48,8 @@ fn add_stitches_from(
     requires levels { length coarser.now < 12 }
     requires finest { IsDrawn 0 finest.now }
     requires coarser { AreDrawn 1 coarser.now }
-    ensures { OnOk result (parts.new.items ≡ parts.old.items ++ stitch_parts_from vertices.now 0 finest.now coarser.now) }
+    ensures { OnOk result (parts.new.items ≡ parts.old.items ++
+        stitch_parts_from vertices.now 0 finest.now coarser.now) }
 {
     let mut active = *finest;
     let mut level = 0;

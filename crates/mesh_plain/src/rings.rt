@@ -1,8 +1,8 @@
 //! The cells at which a mesh has its vertices.
 
 ghost use Rattle.std.specs.Prelude.{◌≡◌, ◌≤◌, ◌^◌, ◌++◌, not, IfOk, OnOk, All, false, filter, length, map};
-ghost use Rattle.clip_regions.specs.Regions.{IsWithin, cells as cells_of};
-ghost use Rattle.mesh_model.specs.Vertices.{hole as hole_of, cells_outside as outside_of, listed_vertices as listed_of};
+ghost use Rattle.clip_regions.specs.Regions.{IsWithin};
+ghost use Rattle.mesh_model.specs.Vertices.{cells_outside, hole, listed_vertices};
 ghost use Rattle.mesh_plain.specs.Cells.{named};
 ghost use Rattle.mesh_plain.specs.Rings.{IsActive, is_outside, level_cell};
 
@@ -15,7 +15,7 @@ use std::alloc::{AllocError, Global};
 /// What a finer active region leaves out of the next coarser one: its half, and nothing where it is empty.
 pub fn hole(finer: &Region) -> Region
     requires { IsActive finer.now }
-    ensures value { result ≡ hole_of finer.now }
+    ensures value { result ≡ hole finer.now }
 {
     if finer.is_empty() {
         Region::empty()
@@ -53,7 +53,8 @@ fn add_level(
 ) -> Result<(), NoMemory>
     requires finer { IsActive finer.now }
     requires active { IsWithin (2 ^ 24) active.now }
-    ensures { OnOk result (listed.new.items ≡ listed.old.items ++ map (named level) (outside_of finer.now active.now)) }
+    ensures { OnOk result (listed.new.items ≡ listed.old.items ++
+        map (named level) (cells_outside finer.now active.now)) }
 {
     let cells = region_cells(alloc, level, active)?;
     add_outside(listed, cells.as_slice(), &hole(finer))?;
@@ -65,7 +66,7 @@ fn add_level(
 pub fn listed_vertices(alloc: Global, actives: &[Region]) -> Result<Vec<Cell>, NoMemory>
     requires levels { length actives.now ≤ 12 }
     requires actives { All IsActive actives.now }
-    ensures value { IfOk result (λ listed. map level_cell listed.items ≡ listed_of actives.now) }
+    ensures value { IfOk result (λ listed. map level_cell listed.items ≡ listed_vertices actives.now) }
 {
     let mut listed = Vec::new(alloc);
     let mut finer = Region::empty();

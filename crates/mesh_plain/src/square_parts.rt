@@ -1,9 +1,9 @@
 //! The parts that the squares of a level make.
 
 ghost use Rattle.std.specs.Prelude.{◌≡◌, ◌+◌, ◌^◌, ◌<◌, ◌++◌, ◌∷◌, [], IfOk, OnOk, flat_map, length, false};
-ghost use Rattle.clip_regions.specs.Regions.{IsWithin, is_empty, cells as cells_of};
-ghost use Rattle.mesh_model.specs.Vertices.{hole as hole_of};
-ghost use Rattle.mesh_model.specs.Parts.{square_triangles as triangles_of_square, squares_between, square_part, square_parts};
+ghost use Rattle.clip_regions.specs.Regions.{IsWithin, is_empty, cells};
+ghost use Rattle.mesh_model.specs.Vertices.{hole};
+ghost use Rattle.mesh_model.specs.Parts.{squares_between, square_part, square_parts, square_triangles};
 ghost use Rattle.mesh_model.specs.declared.shapes.PartKind.TheVariants.{Whole, North, West, East, South};
 ghost use Rattle.mesh_plain.specs.Blocks.{HasPlacedCorners};
 ghost use Rattle.mesh_plain_heights.specs.Placed.{ArePlaced};
@@ -40,7 +40,8 @@ fn triangles_of(
     requires few { length vertices.now < 2 ^ 31 }
     requires level { level < 12 }
     requires placed { ArePlaced level squares.now }
-    ensures { IfOk result (λ triangles. triangles.items ≡ flat_map (λ cell. triangles_of_square vertices.now level cell.0 cell.1) (cells_of squares.now)) }
+    ensures { IfOk result (λ triangles. triangles.items ≡
+        flat_map (λ cell. square_triangles vertices.now level cell.0 cell.1) (cells squares.now)) }
 {
     if squares.is_empty() {
         Ok(Vec::new(alloc))
@@ -60,7 +61,8 @@ fn block_part(
     requires few { length vertices.now < 2 ^ 31 }
     requires level { level < 12 }
     requires corners { HasPlacedCorners level block.now }
-    ensures { IfOk result (λ part. part ≡ square_part vertices.now level kind (squares_between block.now.x0 block.now.x1 block.now.y0 block.now.y1)) }
+    ensures { IfOk result (λ part. part ≡
+        square_part vertices.now level kind (squares_between block.now.x0 block.now.x1 block.now.y0 block.now.y1)) }
 {
     let squares = squares_of(block);
     let triangles = triangles_of(alloc, vertices, level, &squares)?;
@@ -83,7 +85,9 @@ fn add_block(
     requires few { length vertices.now < 2 ^ 31 }
     requires level { level < 12 }
     requires corners { HasPlacedCorners level block.now }
-    ensures { OnOk result (parts.new.items ≡ parts.old.items ++ square_part vertices.now level kind (squares_between block.now.x0 block.now.x1 block.now.y0 block.now.y1) ∷ []) }
+    ensures { OnOk result (parts.new.items ≡ parts.old.items ++
+        square_part vertices.now level kind
+        (squares_between block.now.x0 block.now.x1 block.now.y0 block.now.y1) ∷ []) }
 {
     let part = block_part(alloc, vertices, level, kind, block)?;
     push_part(parts, part)?;
@@ -181,7 +185,7 @@ pub(crate) fn add_square_parts(
     requires few { length vertices.now < 2 ^ 31 }
     requires level { level < 12 }
     requires finer { IsActive finer.now }
-    requires gap { is_empty (hole_of finer.now) ≡ false → HasPlacedCorners level (hole_of finer.now) }
+    requires gap { is_empty (hole finer.now) ≡ false → HasPlacedCorners level (hole finer.now) }
     requires active { HasPlacedCorners level active.now }
     ensures { OnOk result (parts.new.items ≡ parts.old.items ++ square_parts vertices.now level finer.now active.now) }
 {

@@ -1,8 +1,8 @@
 //! The parts that the stitches along the border of an active region make.
 
 ghost use Rattle.std.specs.Prelude.{◌≡◌, ◌+◌, ◌^◌, ◌<◌, ◌++◌, ◌∷◌, [], IfOk, OnOk, length, reverse, false, pos, ◌+ℤ◌};
-ghost use Rattle.clip_regions.specs.Regions.{IsWithin, is_empty, columns as columns_of, rows as rows_of};
-ghost use Rattle.mesh_model.specs.Parts.{corner_place as place_of_corner, places_in_row as row_of, places_in_column as column_of, stitch_part as part_of_walk, stitch_parts};
+ghost use Rattle.clip_regions.specs.Regions.{IsWithin, is_empty, columns, rows};
+ghost use Rattle.mesh_model.specs.Parts.{stitch_parts, corner_place, places_in_column, places_in_row, stitch_part};
 ghost use Rattle.mesh_model.specs.declared.shapes.PartKind.TheVariants.{StitchNorth, StitchEast, StitchSouth, StitchWest};
 ghost use Rattle.mesh_plain.specs.Blocks.{HasPlacedCorners};
 
@@ -20,9 +20,9 @@ fn place_in(vertices: &[Vertex], level: u8, active: &Region, v: u32, u: u32) -> 
     requires few { length vertices.now < 2 ^ 31 }
     requires level { level < 12 }
     requires corners { HasPlacedCorners level active.now }
-    requires column { u < columns_of active.now }
-    requires row { v < rows_of active.now }
-    ensures { result ≡ place_of_corner vertices.now level (active.now.x0 +ℤ pos u) (active.now.y0 +ℤ pos v) }
+    requires column { u < columns active.now }
+    requires row { v < rows active.now }
+    ensures { result ≡ corner_place vertices.now level (active.now.x0 +ℤ pos u) (active.now.y0 +ℤ pos v) }
 {
     corner_place(vertices, &cell_at(level, active, v, u))
 }
@@ -38,8 +38,9 @@ fn places_in_row(
     requires few { length vertices.now < 2 ^ 31 }
     requires level { level < 12 }
     requires corners { HasPlacedCorners level active.now }
-    requires row { v < rows_of active.now }
-    ensures { IfOk result (λ places. places.items ≡ row_of vertices.now level active.now (active.now.y0 +ℤ pos v)) }
+    requires row { v < rows active.now }
+    ensures { IfOk result (λ places. places.items ≡
+        places_in_row vertices.now level active.now (active.now.y0 +ℤ pos v)) }
 {
     let mut places = Vec::new(alloc);
     for u in 0..columns(active) {
@@ -59,8 +60,9 @@ fn places_in_column(
     requires few { length vertices.now < 2 ^ 31 }
     requires level { level < 12 }
     requires corners { HasPlacedCorners level active.now }
-    requires column { u < columns_of active.now }
-    ensures { IfOk result (λ places. places.items ≡ column_of vertices.now level active.now (active.now.x0 +ℤ pos u)) }
+    requires column { u < columns active.now }
+    ensures { IfOk result (λ places. places.items ≡
+        places_in_column vertices.now level active.now (active.now.x0 +ℤ pos u)) }
 {
     let mut places = Vec::new(alloc);
     for v in 0..rows(active) {
@@ -76,7 +78,7 @@ fn stitch_part(
     kind: PartKind,
     walk: &[u32],
 ) -> Result<PlainPart, NoMemory>
-    ensures { IfOk result (λ part. part ≡ part_of_walk level kind walk.now) }
+    ensures { IfOk result (λ part. part ≡ stitch_part level kind walk.now) }
 {
     let triangles = stitches_along(alloc, walk)?;
     Ok(PlainPart {
@@ -97,7 +99,8 @@ fn north_part(
     requires level { level < 12 }
     requires corners { HasPlacedCorners level active.now }
     requires some { is_empty active.now ≡ false }
-    ensures { IfOk result (λ part. part ≡ part_of_walk level StitchNorth (row_of vertices.now level active.now active.now.y0)) }
+    ensures { IfOk result (λ part. part ≡
+        stitch_part level StitchNorth (places_in_row vertices.now level active.now active.now.y0)) }
 {
     let walk = places_in_row(alloc, vertices, level, active, 0)?;
     stitch_part(alloc, level, PartKind::StitchNorth, walk.as_slice())
@@ -114,7 +117,8 @@ fn east_part(
     requires level { level < 12 }
     requires corners { HasPlacedCorners level active.now }
     requires some { is_empty active.now ≡ false }
-    ensures { IfOk result (λ part. part ≡ part_of_walk level StitchEast (column_of vertices.now level active.now active.now.x1)) }
+    ensures { IfOk result (λ part. part ≡
+        stitch_part level StitchEast (places_in_column vertices.now level active.now active.now.x1)) }
 {
     let last = columns(active) - 1;
     let walk = places_in_column(alloc, vertices, level, active, last)?;
@@ -132,7 +136,9 @@ fn south_part(
     requires level { level < 12 }
     requires corners { HasPlacedCorners level active.now }
     requires some { is_empty active.now ≡ false }
-    ensures { IfOk result (λ part. part ≡ part_of_walk level StitchSouth (reverse (row_of vertices.now level active.now active.now.y1))) }
+    ensures { IfOk result (λ part. part ≡
+        stitch_part level StitchSouth
+        (reverse (places_in_row vertices.now level active.now active.now.y1))) }
 {
     let last = rows(active) - 1;
     let mut walk = places_in_row(alloc, vertices, level, active, last)?;
@@ -151,7 +157,9 @@ fn west_part(
     requires level { level < 12 }
     requires corners { HasPlacedCorners level active.now }
     requires some { is_empty active.now ≡ false }
-    ensures { IfOk result (λ part. part ≡ part_of_walk level StitchWest (reverse (column_of vertices.now level active.now active.now.x0))) }
+    ensures { IfOk result (λ part. part ≡
+        stitch_part level StitchWest
+        (reverse (places_in_column vertices.now level active.now active.now.x0))) }
 {
     let mut walk = places_in_column(alloc, vertices, level, active, 0)?;
     walk.reverse();

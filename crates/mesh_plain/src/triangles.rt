@@ -2,8 +2,8 @@
 
 ghost use Rattle.std.specs.Prelude.{◌≡◌, ◌+◌, ◌^◌, ◌<◌, ◌++◌, IfOk, OnOk, flat_map, length, pos, ◌+ℤ◌};
 ghost use Rattle.std.specs.List.{range_with_len};
-ghost use Rattle.clip_regions.specs.Regions.{columns as columns_of, rows as rows_of, cells as cells_of, IsWithin};
-ghost use Rattle.mesh_model.specs.Parts.{square_triangles as triangles_of_square};
+ghost use Rattle.clip_regions.specs.Regions.{IsWithin, cells, columns, rows};
+ghost use Rattle.mesh_model.specs.Parts.{square_triangles};
 ghost use Rattle.mesh_plain.specs.Strips.{strip_square};
 ghost use Rattle.mesh_plain_heights.specs.Placed.{IsPlacedAt, ArePlaced, IsSquarePlaced};
 
@@ -43,7 +43,7 @@ pub fn square_triangles(vertices: &[Vertex], cell: &Cell) -> [[u32; 3]; 2]
     requires few { length vertices.now < 2 ^ 31 }
     requires level { cell.now.level < 12 }
     requires square { IsSquarePlaced cell.now }
-    ensures value { result ≡ triangles_of_square vertices.now cell.now.level cell.now.i cell.now.j }
+    ensures value { result ≡ square_triangles vertices.now cell.now.level cell.now.i cell.now.j }
 {
     let east = east_of(cell);
     let south = south_of(cell);
@@ -65,7 +65,8 @@ fn add_square(
     requires few { length vertices.now < 2 ^ 31 }
     requires level { cell.now.level < 12 }
     requires square { IsSquarePlaced cell.now }
-    ensures { OnOk result (triangles.new.items ≡ triangles.old.items ++ triangles_of_square vertices.now cell.now.level cell.now.i cell.now.j) }
+    ensures { OnOk result (triangles.new.items ≡ triangles.old.items ++
+        square_triangles vertices.now cell.now.level cell.now.i cell.now.j) }
 {
     triangles.extend_from_slice(&square_triangles(vertices, cell))
 }
@@ -82,9 +83,12 @@ fn add_strip(
     requires level { level < 12 }
     requires within { IsWithin (2 ^ 24) squares.now }
     requires placed { ArePlaced level squares.now }
-    requires row { v < rows_of squares.now }
+    requires row { v < rows squares.now }
     requires row_fits { v < 2 ^ 26 }
-    ensures { OnOk result (triangles.new.items ≡ triangles.old.items ++ flat_map (strip_square vertices.now level squares.now v) (range_with_len 0 (columns_of squares.now))) }
+
+    // The triangles of the row's squares come after those that were there.
+    ensures { OnOk result (triangles.new.items ≡ triangles.old.items ++
+        flat_map (strip_square vertices.now level squares.now v) (range_with_len 0 (columns squares.now))) }
 {
     for u in 0..columns(squares) {
         add_square(triangles, vertices, &cell_at(level, squares, v, u))?;
@@ -103,7 +107,8 @@ pub fn block_triangles(
     requires level { level < 12 }
     requires within { IsWithin (2 ^ 24) squares.now }
     requires placed { ArePlaced level squares.now }
-    ensures value { IfOk result (λ triangles. triangles.items ≡ flat_map (λ cell. triangles_of_square vertices.now level cell.0 cell.1) (cells_of squares.now)) }
+    ensures value { IfOk result (λ triangles. triangles.items ≡
+        flat_map (λ cell. square_triangles vertices.now level cell.0 cell.1) (cells squares.now)) }
 {
     let mut triangles = Vec::new(alloc);
     for v in 0..rows(squares) {

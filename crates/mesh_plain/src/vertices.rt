@@ -2,7 +2,7 @@
 
 ghost use Rattle.std.specs.Prelude.{◌≡◌, ◌≤◌, IfOk, All, length, map};
 ghost use Rattle.plan_model.specs.Limits.{IsSize};
-ghost use Rattle.mesh_model.specs.Vertices.{vertex_at as vertex_of_cell, mesh_vertices as vertices_of_mesh};
+ghost use Rattle.mesh_model.specs.Vertices.{mesh_vertices, vertex_at};
 ghost use Rattle.mesh_plain.specs.Rings.{level_cell};
 ghost use Rattle.mesh_plain_heights.specs.Drawn.{IsDrawnCell};
 ghost use Rattle.mesh_plain.specs.Frames.{AreDrawn};
@@ -20,7 +20,7 @@ fn vertex_at(terrain: &Grid, k: u8, actives: &[Region], cell: &Cell) -> Vertex
     requires size { IsSize k }
     requires levels { length actives.now ≤ 12 }
     requires cell { IsDrawnCell actives.now cell.now }
-    ensures { result ≡ vertex_of_cell terrain.now k actives.now (level_cell cell.now) }
+    ensures { result ≡ vertex_at terrain.now k actives.now (level_cell cell.now) }
 {
     let at = position_of(cell);
     Vertex {
@@ -41,7 +41,8 @@ fn vertices_at(
     requires size { IsSize k }
     requires levels { length actives.now ≤ 12 }
     requires cells { All (IsDrawnCell actives.now) cells.now }
-    ensures { IfOk result (λ vertices. vertices.items ≡ map (λ cell. vertex_of_cell terrain.now k actives.now (level_cell cell)) cells.now) }
+    ensures { IfOk result (λ vertices. vertices.items ≡
+        map (λ cell. vertex_at terrain.now k actives.now (level_cell cell)) cells.now) }
 {
     let mut vertices = Vec::new(alloc);
     for cell in cells {
@@ -61,7 +62,7 @@ pub fn mesh_vertices(
     requires size { IsSize k }
     requires levels { length actives.now ≤ 12 }
     requires drawn { AreDrawn 0 actives.now }
-    ensures value { IfOk result (λ v. v.items ≡ vertices_of_mesh terrain.now k actives.now) }
+    ensures value { IfOk result (λ v. v.items ≡ mesh_vertices terrain.now k actives.now) }
 {
     let cells = listed_vertices(alloc, actives)?;
     let vertices = vertices_at(alloc, terrain, k, actives, cells.as_slice())?;

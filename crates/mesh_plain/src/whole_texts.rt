@@ -2,9 +2,9 @@
 
 ghost use Rattle.std.specs.Prelude.{◌≡◌, ◌^◌, ◌<◌, ◌≤◌, IfOk, length};
 ghost use Rattle.plan_model.specs.Limits.{IsSize};
-ghost use Rattle.mesh_model.specs.Mesh.{mesh as mesh_of};
-ghost use Rattle.mesh_model.specs.Text.{frame_text as text_of_frame};
-ghost use Rattle.mesh_model.specs.Seen.{seen_text as text_of_seen};
+ghost use Rattle.mesh_model.specs.Mesh.{mesh};
+ghost use Rattle.mesh_model.specs.Text.{frame_text};
+ghost use Rattle.mesh_model.specs.Seen.{seen_text};
 ghost use Rattle.mesh_model.specs.Vertices.{listed_vertices};
 ghost use Rattle.mesh_plain.specs.Frames.{AreDrawn};
 
@@ -29,8 +29,10 @@ pub fn whole_text(
     requires levels { length actives.now ≤ 12 }
     requires drawn { AreDrawn 0 actives.now }
     requires few_vertices { length (listed_vertices actives.now) < 2 ^ 31 }
-    requires few_triangles { length (mesh_of terrain.now k actives.now).triangles < 2 ^ 31 }
-    ensures value { IfOk result (λ text. text.items ≡ text_of_frame head.now.number head.now.x head.now.y actives.now (mesh_of terrain.now k actives.now)) }
+    requires few_triangles { length (mesh terrain.now k actives.now).triangles < 2 ^ 31 }
+    ensures value { IfOk result (λ text. text.items ≡
+        frame_text head.now.number head.now.x head.now.y actives.now
+        (mesh terrain.now k actives.now)) }
 {
     let lists = mesh(alloc, terrain, k, actives)?;
     frame_text(alloc, head, actives, lists.vertices(), lists.triangles())
@@ -49,8 +51,10 @@ pub fn kept_text(
     requires levels { length actives.now ≤ 12 }
     requires drawn { AreDrawn 0 actives.now }
     requires few_vertices { length (listed_vertices actives.now) < 2 ^ 31 }
-    requires few_triangles { length (mesh_of terrain.now k actives.now).triangles < 2 ^ 31 }
-    ensures value { IfOk result (λ text. text.items ≡ text_of_seen head.now.number head.now.x head.now.y actives.now (mesh_of terrain.now k actives.now) view.now) }
+    requires few_triangles { length (mesh terrain.now k actives.now).triangles < 2 ^ 31 }
+    ensures value { IfOk result (λ text. text.items ≡
+        seen_text head.now.number head.now.x head.now.y actives.now
+        (mesh terrain.now k actives.now) view.now) }
 {
     let lists = mesh(alloc, terrain, k, actives)?;
     seen_text(

@@ -1,14 +1,13 @@
 -- Heights: the terms of the code are those of the definitions.
-use Rattle.std.proofs.Common.{◌≡◌, ℕ, Bool, true, false, if◌then◌else◌, ℤ, pos, neg_ℤ, ◌-ℤ◌, ◌≤ℤ◌, ◌^◌, ap, ◌∙◌, w32, arith}
+use Rattle.std.proofs.Common.{◌≡◌, Bool, true, false, if◌then◌else◌, ℤ, pos, neg_ℤ, ◌-ℤ◌, ◌≤ℤ◌, ◌^◌, ap, ◌∙◌, w32, arith}
 use Rattle.std.specs.Prelude.{int_lt}
-use Rattle.std.specs.Int.{int_min, int_max}
+use Rattle.std.specs.Int.{int_min}
 use Rattle.std.proofs.lemmas.Int.{ints}
 use mir.Val.{to_z, of_z}
 use Rattle.clip_regions.specs.declared.region.Region.{Region}
 use Rattle.clip_regions.specs.Regions.{IsWithin}
 use Rattle.clip_regions.specs.FloorDivision.{floor_div}
-use Rattle.plan_model.specs.Window.{blend_width}
-use Rattle.mesh_model.specs.Height.{border_distance, blend_share}
+use Rattle.mesh_model.specs.Height.{border_distance}
 
 -- a difference of two near numbers fits
 pub difference_is : (a b : ℤ) → neg_ℤ (pos (2 ^ 24)) ≤ℤ a → a ≤ℤ pos (2 ^ 24) → neg_ℤ (pos (2 ^ 24)) ≤ℤ b → b ≤ℤ pos (2 ^ 24) → to_z w32 (of_z w32 (to_z w32 (of_z w32 a) -ℤ to_z w32 (of_z w32 b))) ≡ a -ℤ b

@@ -1,9 +1,7 @@
 -- The weights of a blend are numbers from 0 to 32.
-use Rattle.std.proofs.Common.{◌≡◌, ℕ, ◌+◌, ◌-◌, ◌*◌, ◌/◌, ◌^◌, ◌≤◌, ℤ, pos, ◌+ℤ◌, ◌-ℤ◌, ◌*ℤ◌, ◌≤ℤ◌, true, false, Bool, sym, refl, ap, ◌∙◌, w16, w32, List, length, ◌==◌, arith}
-use Rattle.std.proofs.lemmas.Int.{ints, to_z-of_z}
-use mir.Val.{to_z, of_z, SFits}
+use Rattle.std.proofs.Common.{◌≡◌, ℕ, ◌+◌, ◌-◌, ◌/◌, ◌^◌, ◌≤◌, ℤ, pos, ◌+ℤ◌, ◌-ℤ◌, ◌*ℤ◌, ◌≤ℤ◌, true, false, Bool, sym, refl, ap, List, length, ◌==◌, arith}
+use Rattle.std.proofs.lemmas.Int.{ints}
 use Rattle.clip_regions.specs.declared.region.Region.{Region}
-use Rattle.clip_regions.specs.Regions.{contains}
 use Rattle.plan_model.specs.Window.{blend_width}
 use Rattle.terrain_model.specs.Terrain.{Terrain, level_height}
 use Rattle.mesh_model.specs.Height.{blend_share, blended_height, active_of, lower_end, upper_end, vertex_height}

@@ -3,11 +3,11 @@
 ghost use Rattle.std.specs.Prelude.{◌≡◌, ℕ, ◌+◌, ◌/◌, ◌^◌, ◌≤◌, ◌<◌, ◌&&◌, IsTrue, true, false, ℤ, pos, neg_ℤ, ◌+ℤ◌, ◌-ℤ◌, ◌*ℤ◌, ◌≤ℤ◌, length};
 ghost use Rattle.clip_regions.specs.Regions.{IsWithin, contains};
 ghost use Rattle.plan_model.specs.Limits.{IsSize};
-ghost use Rattle.plan_model.specs.Window.{blend_width as width_of_blend};
+ghost use Rattle.plan_model.specs.Window.{blend_width};
 ghost use Rattle.terrain_model.specs.Terrain.{level_height};
-ghost use Rattle.mesh_model.specs.Height.{border_distance as distance_of, blend_share as share_of, lower_end as lower_of, upper_end as upper_of, active_of, blended_height, vertex_height as height_of_vertex};
+ghost use Rattle.mesh_model.specs.Height.{active_of, blended_height, blend_share, border_distance, lower_end, upper_end, vertex_height};
 ghost use Rattle.mesh_plain_heights.specs.Placed.{IsPlacedAt};
-ghost use Rattle.mesh_plain_heights.specs.Drawn.{IsDrawnCell, own_weight as weight_of_own, coarser_weight as weight_of_coarser, blended_by};
+ghost use Rattle.mesh_plain_heights.specs.Drawn.{IsDrawnCell, blended_by, coarser_weight, own_weight};
 
 use crate::places::Cell;
 use clip_regions::{Region, floor_div};
@@ -21,7 +21,9 @@ pub fn border_distance(region: &Region, cell: &Cell) -> i32
     requires east { cell.now.i ≤ℤ pos (2 ^ 24) }
     requires north { neg_ℤ (pos (2 ^ 24)) ≤ℤ cell.now.j }
     requires south { cell.now.j ≤ℤ pos (2 ^ 24) }
-    ensures value { result ≡ distance_of region.now cell.now.i cell.now.j }
+
+    // It is the distance of the definition, and small.
+    ensures value { result ≡ border_distance region.now cell.now.i cell.now.j }
     ensures low { neg_ℤ (pos (2 ^ 25)) ≤ℤ result }
     ensures high { result ≤ℤ pos (2 ^ 25) }
 {
@@ -39,7 +41,9 @@ pub fn blend_share(k: u8, coarsest: bool, region: &Region, cell: &Cell) -> i32
     requires east { cell.now.i ≤ℤ pos (2 ^ 24) }
     requires north { neg_ℤ (pos (2 ^ 24)) ≤ℤ cell.now.j }
     requires south { cell.now.j ≤ℤ pos (2 ^ 24) }
-    ensures value { result ≡ share_of k coarsest region.now cell.now.i cell.now.j }
+
+    // It is the share of the definition.
+    ensures value { result ≡ blend_share k coarsest region.now cell.now.i cell.now.j }
 {
     if coarsest {
         0
@@ -50,7 +54,7 @@ pub fn blend_share(k: u8, coarsest: bool, region: &Region, cell: &Cell) -> i32
 
 /// The coarser coordinate of the end before or at a coordinate.
 pub fn lower_end(i: i32) -> i32
-    ensures value { result ≡ lower_of i }
+    ensures value { result ≡ lower_end i }
 {
     floor_div(i, 2)
 }
@@ -58,7 +62,7 @@ pub fn lower_end(i: i32) -> i32
 /// The coarser coordinate of the end at or after a coordinate.
 pub fn upper_end(i: i32) -> i32
     requires { i ≤ℤ pos (2 ^ 24) }
-    ensures value { result ≡ upper_of i }
+    ensures value { result ≡ upper_end i }
 {
     floor_div(i + 1, 2)
 }
@@ -66,7 +70,7 @@ pub fn upper_end(i: i32) -> i32
 // How many thirty-seconds of a metre one cell of the blend width gives of a height: 32 over that width.
 fn own_scale(k: u8) -> i32
     requires { IsSize k }
-    ensures value { result ≡ pos (32 / width_of_blend k) }
+    ensures value { result ≡ pos (32 / blend_width k) }
     ensures few { result ≤ℤ pos 32 }
 {
     match k {
@@ -81,7 +85,7 @@ fn own_scale(k: u8) -> i32
 // The same for each of two coarser heights: 16 over the blend width.
 fn coarser_scale(k: u8) -> i32
     requires { IsSize k }
-    ensures value { result ≡ pos (16 / width_of_blend k) }
+    ensures value { result ≡ pos (16 / blend_width k) }
     ensures few { result ≤ℤ pos 32 }
 {
     match k {
@@ -97,8 +101,8 @@ fn coarser_scale(k: u8) -> i32
 fn own_weight(k: u8, share: i32) -> i32
     requires size { IsSize k }
     requires some { pos 0 ≤ℤ share }
-    requires within { share ≤ℤ pos (width_of_blend k) }
-    ensures value { result ≡ weight_of_own k share }
+    requires within { share ≤ℤ pos (blend_width k) }
+    ensures value { result ≡ own_weight k share }
     ensures positive { pos 0 ≤ℤ result }
     ensures few { result ≤ℤ pos 32 }
 {
@@ -109,8 +113,8 @@ fn own_weight(k: u8, share: i32) -> i32
 fn coarser_weight(k: u8, share: i32) -> i32
     requires size { IsSize k }
     requires some { pos 0 ≤ℤ share }
-    requires within { share ≤ℤ pos (width_of_blend k) }
-    ensures value { result ≡ weight_of_coarser k share }
+    requires within { share ≤ℤ pos (blend_width k) }
+    ensures value { result ≡ coarser_weight k share }
     ensures positive { pos 0 ≤ℤ result }
     ensures few { result ≤ℤ pos 32 }
 {
@@ -123,6 +127,8 @@ fn weighted(weight: i32, height: i32) -> i32
     requires few { weight ≤ℤ pos 32 }
     requires low { neg_ℤ (pos (2 ^ 16)) ≤ℤ height }
     requires high { height ≤ℤ pos (2 ^ 16) }
+
+    // It is the product, and small.
     ensures value { result ≡ weight *ℤ height }
     ensures low { neg_ℤ (pos (2 ^ 21)) ≤ℤ result }
     ensures high { result ≤ℤ pos (2 ^ 21) }
@@ -135,7 +141,7 @@ fn weighted(weight: i32, height: i32) -> i32
 fn blended(k: u8, share: i32, own: i16, a: i16, b: i16) -> i32
     requires size { IsSize k }
     requires some { pos 0 ≤ℤ share }
-    requires within { share ≤ℤ pos (width_of_blend k) }
+    requires within { share ≤ℤ pos (blend_width k) }
     ensures { result ≡ blended_by k share own a b }
 {
     let coarser = i32::from(a) + i32::from(b);
@@ -147,7 +153,7 @@ fn lower_height(terrain: &Grid, cell: &Cell) -> i16
     requires level { cell.now.level < 11 }
     requires column { IsPlacedAt cell.now.level cell.now.i }
     requires row { IsPlacedAt cell.now.level cell.now.j }
-    ensures { result ≡ level_height terrain.now (cell.now.level + 1) (lower_of cell.now.i) (lower_of cell.now.j) }
+    ensures { result ≡ level_height terrain.now (cell.now.level + 1) (lower_end cell.now.i) (lower_end cell.now.j) }
 {
     terrain.level_height(cell.level + 1, lower_end(cell.i), lower_end(cell.j))
 }
@@ -157,7 +163,7 @@ fn upper_height(terrain: &Grid, cell: &Cell) -> i16
     requires level { cell.now.level < 11 }
     requires column { IsPlacedAt cell.now.level cell.now.i }
     requires row { IsPlacedAt cell.now.level cell.now.j }
-    ensures { result ≡ level_height terrain.now (cell.now.level + 1) (upper_of cell.now.i) (upper_of cell.now.j) }
+    ensures { result ≡ level_height terrain.now (cell.now.level + 1) (upper_end cell.now.i) (upper_end cell.now.j) }
 {
     terrain.level_height(cell.level + 1, upper_end(cell.i), upper_end(cell.j))
 }
@@ -180,7 +186,13 @@ fn finer_height(terrain: &Grid, k: u8, active: &Region, cell: &Cell) -> i32
     requires inside { contains active.now cell.now.i cell.now.j ≡ true }
     requires column { IsPlacedAt cell.now.level cell.now.i }
     requires row { IsPlacedAt cell.now.level cell.now.j }
-    ensures { result ≡ blended_height k false active.now cell.now.i cell.now.j (level_height terrain.now cell.now.level cell.now.i cell.now.j) (level_height terrain.now (cell.now.level + 1) (lower_of cell.now.i) (lower_of cell.now.j)) (level_height terrain.now (cell.now.level + 1) (upper_of cell.now.i) (upper_of cell.now.j)) }
+
+    // It is the blend of the cell's height and those of both ends.
+    ensures { result ≡ blended_height k false active.now cell.now.i cell.now.j
+        (level_height terrain.now cell.now.level cell.now.i cell.now.j)
+        (level_height terrain.now (cell.now.level + 1) (lower_end cell.now.i) (lower_end cell.now.j))
+        (level_height terrain.now (cell.now.level + 1) (upper_end cell.now.i)
+        (upper_end cell.now.j)) }
 {
     let share = blend_share(k, false, active, cell);
     let own = terrain.level_height(cell.level, cell.i, cell.j);
@@ -207,7 +219,7 @@ pub fn vertex_height(terrain: &Grid, k: u8, actives: &[Region], cell: &Cell) -> 
     requires size { IsSize k }
     requires levels { length actives.now ≤ 12 }
     requires cell { IsDrawnCell actives.now cell.now }
-    ensures value { result ≡ height_of_vertex terrain.now k actives.now cell.now.level cell.now.i cell.now.j }
+    ensures value { result ≡ vertex_height terrain.now k actives.now cell.now.level cell.now.i cell.now.j }
 {
     if usize::from(cell.level) + 1 == actives.len() {
         coarsest_height(terrain, cell)

@@ -4,8 +4,8 @@ ghost use Rattle.std.specs.Prelude.{◌≡◌, ◌+◌, ◌^◌, ◌<◌, ◌≤
 ghost use Rattle.std.specs.Prelude.{◌&&◌};
 ghost use Rattle.std.specs.Ordering.{int_eq};
 ghost use Rattle.mesh_plain_heights.specs.Placed.{IsPlacedAt};
-ghost use Rattle.mesh_model.specs.Vertices.{place_of as place_in_list};
-ghost use Rattle.mesh_model.specs.Parts.{corner_place as place_of_corner, square_triangles as triangles_of_square};
+ghost use Rattle.mesh_model.specs.Vertices.{place_of};
+ghost use Rattle.mesh_model.specs.Parts.{corner_place};
 
 use mesh_model::Vertex;
 
@@ -62,7 +62,7 @@ fn is_at(vertex: &Vertex, at: &Position) -> bool
 /// The place of the first vertex at a position, or the number of vertices where there is none.
 pub fn place_of(vertices: &[Vertex], at: &Position) -> u32
     requires { length vertices.now < 2 ^ 31 }
-    ensures value { result ≡ place_in_list vertices.now at.now.x at.now.z }
+    ensures value { result ≡ place_of vertices.now at.now.x at.now.z }
 {
     let mut place = 0;
     for vertex in vertices {
@@ -80,7 +80,7 @@ pub fn corner_place(vertices: &[Vertex], cell: &Cell) -> u32
     requires level { cell.now.level < 12 }
     requires i { IsPlacedAt cell.now.level cell.now.i }
     requires j { IsPlacedAt cell.now.level cell.now.j }
-    ensures value { result ≡ place_of_corner vertices.now cell.now.level cell.now.i cell.now.j }
+    ensures value { result ≡ corner_place vertices.now cell.now.level cell.now.i cell.now.j }
 {
     place_of(vertices, &position_of(cell))
 }

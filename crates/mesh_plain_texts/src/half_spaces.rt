@@ -2,7 +2,7 @@
 
 ghost use Rattle.std.specs.Prelude.{◌≡◌, ◌^◌, ◌&&◌, ◌*ℤ◌};
 ghost use Rattle.std.specs.List.{list_any};
-ghost use Rattle.mesh_model.specs.Seen.{corner_value as value_at_corner, is_point_outside, is_box_outside, is_kept as is_kept_by};
+ghost use Rattle.mesh_model.specs.Seen.{is_point_outside, is_box_outside, corner_value, is_kept};
 ghost use Rattle.mesh_plain_texts.specs.Products.{LiesWithin};
 
 use mesh_model::{Bounds, HalfSpace, Part};
@@ -17,7 +17,7 @@ fn product(a: i32, b: i32) -> i128
 
 // The value at a corner of a box, in thirty-seconds: it is negative outside the half-space.
 fn corner_value(space: &HalfSpace, x: i32, height: i32, z: i32) -> i128
-    ensures { result ≡ value_at_corner space.now x height z }
+    ensures { result ≡ corner_value space.now x height z }
 {
     let across = product(space.a, x);
     let up = product(space.b, height);
@@ -35,14 +35,18 @@ fn is_corner_outside(space: &HalfSpace, x: i32, height: i32, z: i32) -> bool
 
 // Whether both ends of an edge of a box that runs from west to east lie outside a half-space.
 fn is_edge_outside(space: &HalfSpace, bounds: &Bounds, height: i32, z: i32) -> bool
-    ensures { result ≡ (is_point_outside space.now bounds.now.x0 height z && is_point_outside space.now bounds.now.x1 height z) }
+    ensures { result ≡ (is_point_outside space.now bounds.now.x0 height z &&
+        is_point_outside space.now bounds.now.x1 height z) }
 {
     is_corner_outside(space, bounds.x0, height, z) && is_corner_outside(space, bounds.x1, height, z)
 }
 
 // Whether the four corners of a box in a row lie outside a half-space.
 fn is_side_outside(space: &HalfSpace, bounds: &Bounds, z: i32) -> bool
-    ensures { result ≡ ((is_point_outside space.now bounds.now.x0 bounds.now.low z && is_point_outside space.now bounds.now.x1 bounds.now.low z) && (is_point_outside space.now bounds.now.x0 bounds.now.high z && is_point_outside space.now bounds.now.x1 bounds.now.high z)) }
+    ensures { result ≡ ((is_point_outside space.now bounds.now.x0 bounds.now.low z &&
+        is_point_outside space.now bounds.now.x1 bounds.now.low z) &&
+        (is_point_outside space.now bounds.now.x0 bounds.now.high z &&
+        is_point_outside space.now bounds.now.x1 bounds.now.high z)) }
 {
     is_edge_outside(space, bounds, bounds.low, z) && is_edge_outside(space, bounds, bounds.high, z)
 }
@@ -65,7 +69,7 @@ fn is_dropped(view: &[HalfSpace], bounds: &Bounds) -> bool
 /// Whether no half-space of a view drops the part.
 #[tactic(auto, unfolding(mesh_model::specs::Seen::is_kept))]
 pub fn is_kept(view: &[HalfSpace], part: &Part) -> bool
-    ensures value { result ≡ is_kept_by view.now part.now }
+    ensures value { result ≡ is_kept view.now part.now }
 {
     !is_dropped(view, &part.bounds)
 }

@@ -2,9 +2,9 @@
 
 ghost use Rattle.std.specs.Prelude.{◌≡◌, ◌+◌, ◌^◌, ◌<◌, ◌++◌, ◌==◌, IfOk, OnOk, length, map, flat_map, pos, string_bytes, slice_index_or};
 ghost use Rattle.std.specs.List.{list_any};
-ghost use Rattle.mesh_model.specs.Conditions.{triangles_of_part as triangles_of};
+ghost use Rattle.mesh_model.specs.Conditions.{triangles_of_part};
 ghost use Rattle.mesh_model.specs.Text.{vertex_line, triangle_line};
-ghost use Rattle.mesh_model.specs.Seen.{kept_parts as parts_kept, triangles_of_parts as triangles_of_all, is_named as is_named_by, named_places as places_named, new_place as place_anew, seen_text as text_of_seen};
+ghost use Rattle.mesh_model.specs.Seen.{is_named, kept_parts, named_places, new_place, seen_text, triangles_of_parts};
 
 use crate::half_spaces::is_kept;
 use crate::lines::{KeptLine, TriangleLine, VertexLine};
@@ -16,7 +16,7 @@ use std::alloc::{AllocError, Global};
 
 // The triangles of a part.
 fn triangles_of_part<'a>(triangles: &'a [[u32; 3]], part: &Part) -> &'a [[u32; 3]]
-    ensures { result.now ≡ triangles_of triangles.now part.now }
+    ensures { result.now ≡ triangles_of_part triangles.now part.now }
 {
     let first = (part.first as usize).min(triangles.len());
     let rest = &triangles[first..];
@@ -26,7 +26,7 @@ fn triangles_of_part<'a>(triangles: &'a [[u32; 3]], part: &Part) -> &'a [[u32; 3
 
 // The parts that a view keeps.
 fn kept_parts(alloc: Global, parts: &[Part], view: &[HalfSpace]) -> Result<Vec<Part>, AllocError>
-    ensures { IfOk result (λ kept. kept.items ≡ parts_kept view.now parts.now) }
+    ensures { IfOk result (λ kept. kept.items ≡ kept_parts view.now parts.now) }
 {
     parts
         .iter()
@@ -41,7 +41,7 @@ fn triangles_of_parts(
     triangles: &[[u32; 3]],
     parts: &[Part],
 ) -> Result<Vec<[u32; 3]>, AllocError>
-    ensures { IfOk result (λ found. found.items ≡ triangles_of_all triangles.now parts.now) }
+    ensures { IfOk result (λ found. found.items ≡ triangles_of_parts triangles.now parts.now) }
 {
     let mut found = Vec::new(alloc);
     for part in parts {
@@ -60,7 +60,7 @@ fn has_corner(triangle: &[u32; 3], place: u32) -> bool
 // Whether one of the triangles has the vertex at a place.
 #[tactic(auto, unfolding(mesh_model::specs::Seen::is_named))]
 fn is_named(triangles: &[[u32; 3]], place: u32) -> bool
-    ensures { result ≡ is_named_by triangles.now place }
+    ensures { result ≡ is_named triangles.now place }
 {
     triangles.iter().any(|triangle| has_corner(triangle, place))
 }
@@ -68,7 +68,7 @@ fn is_named(triangles: &[[u32; 3]], place: u32) -> bool
 // The places below a count that the triangles have, in their order.
 #[tactic(auto, unfolding(mesh_model::specs::Seen::named_places))]
 fn named_places(alloc: Global, triangles: &[[u32; 3]], count: u32) -> Result<Vec<u32>, AllocError>
-    ensures { IfOk result (λ places. places.items ≡ places_named triangles.now count) }
+    ensures { IfOk result (λ places. places.items ≡ named_places triangles.now count) }
 {
     (0..count)
         .filter(|place| is_named(triangles, *place))
@@ -77,7 +77,7 @@ fn named_places(alloc: Global, triangles: &[[u32; 3]], count: u32) -> Result<Vec
 
 // A place numbered anew: how many of the places before it the triangles have.
 fn new_place(triangles: &[[u32; 3]], place: u32) -> u32
-    ensures { result ≡ place_anew triangles.now place }
+    ensures { result ≡ new_place triangles.now place }
 {
     let mut named = 0;
     for earlier in 0..place {
@@ -90,7 +90,7 @@ fn new_place(triangles: &[[u32; 3]], place: u32) -> u32
 
 // A triangle with its places numbered anew.
 fn renumbered(triangles: &[[u32; 3]], triangle: &[u32; 3]) -> [u32; 3]
-    ensures { result ≡ map (place_anew triangles.now) triangle.now }
+    ensures { result ≡ map (new_place triangles.now) triangle.now }
 {
     [
         new_place(triangles, triangle[0]),
@@ -120,7 +120,9 @@ fn write_vertices_at(
     vertices: &[Vertex],
     places: &[u32],
 ) -> Result<(), AllocError>
-    ensures { OnOk result (string_bytes text.new ≡ string_bytes text.old ++ flat_map (λ place. vertex_line (slice_index_or vertices.now place (record { x = pos 0; z = pos 0; height = pos 0 }))) places.now) }
+    ensures { OnOk result (string_bytes text.new ≡ string_bytes text.old ++
+        flat_map (λ place. vertex_line (slice_index_or vertices.now place
+        (record { x = pos 0; z = pos 0; height = pos 0 }))) places.now) }
 {
     for place in places {
         write!(text, "{}", VertexLine(vertex_at(vertices, *place)))?;
@@ -130,7 +132,8 @@ fn write_vertices_at(
 
 // Writes the lines of triangles whose places are numbered anew.
 fn write_renumbered(text: &mut String, triangles: &[[u32; 3]]) -> Result<(), AllocError>
-    ensures { OnOk result (string_bytes text.new ≡ string_bytes text.old ++ flat_map (λ triangle. triangle_line (map (place_anew triangles.now) triangle)) triangles.now) }
+    ensures { OnOk result (string_bytes text.new ≡ string_bytes text.old ++
+        flat_map (λ triangle. triangle_line (map (new_place triangles.now) triangle)) triangles.now) }
 {
     for triangle in triangles {
         write!(text, "{}", TriangleLine(renumbered(triangles, triangle)))?;
@@ -152,7 +155,7 @@ pub fn seen_text(
 ) -> Result<Vec<u8>, NoMemory>
     requires few { length vertices.now < 2 ^ 31 }
     ensures value { IfOk result (λ text. text.items
-        ≡ text_of_seen head.now.number head.now.x head.now.y actives.now
+        ≡ seen_text head.now.number head.now.x head.now.y actives.now
         (record { vertices = vertices.now; triangles = triangles.now; parts = parts.now }) view.now) }
 {
     let kept = kept_parts(alloc, parts, view)?;

@@ -1,7 +1,7 @@
 //! The text of a frame.
 
 ghost use Rattle.std.specs.Prelude.{◌≡◌, ◌++◌, [], IfOk, OnOk, flat_map, string_bytes};
-ghost use Rattle.mesh_model.specs.Text.{head_text, level_lines, vertex_line, triangle_line, frame_text as text_of_frame};
+ghost use Rattle.mesh_model.specs.Text.{head_text, level_lines, vertex_line, triangle_line, frame_text};
 
 use crate::lines::{FrameLine, LevelLine, TriangleLine, VertexLine, ViewerLine};
 use clip_regions::Region;
@@ -40,7 +40,8 @@ pub(crate) fn write_head(
     head: &Head,
     actives: &[Region],
 ) -> Result<(), AllocError>
-    ensures { OnOk result (string_bytes text.new ≡ string_bytes text.old ++ head_text head.now.number head.now.x head.now.y actives.now) }
+    ensures { OnOk result (string_bytes text.new ≡ string_bytes text.old ++
+        head_text head.now.number head.now.x head.now.y actives.now) }
 {
     let Head { number, x, y } = *head;
     let frame = FrameLine { number };
@@ -80,7 +81,9 @@ pub fn frame_text(
     vertices: &[Vertex],
     triangles: &[[u32; 3]],
 ) -> Result<Vec<u8>, NoMemory>
-    ensures value { IfOk result (λ text. text.items ≡ text_of_frame head.now.number head.now.x head.now.y actives.now (record { vertices = vertices.now; triangles = triangles.now; parts = [] })) }
+    ensures value { IfOk result (λ text. text.items ≡
+        frame_text head.now.number head.now.x head.now.y actives.now
+        (record { vertices = vertices.now; triangles = triangles.now; parts = [] })) }
 {
     let mut text = String::new(alloc);
     write_head(&mut text, head, actives)?;

@@ -10,5 +10,6 @@ pub fn natural_texts_are_read()
 
 /// The same of a number of 64 bits with a sign.
 pub fn whole_texts_are_read()
-    ensures { (low high n : ℤ) → neg_ℤ (pos (2 ^ 63)) ≤ℤ n → n <ℤ pos (2 ^ 63) → low ≤ℤ n → n ≤ℤ high → whole_of low high (signed_decimal n) ≡ Some n }
+    ensures { (low high n : ℤ) → neg_ℤ (pos (2 ^ 63)) ≤ℤ n → n <ℤ pos (2 ^ 63) → low ≤ℤ n → n ≤ℤ high →
+        whole_of low high (signed_decimal n) ≡ Some n }
 {}

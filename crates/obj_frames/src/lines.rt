@@ -3,7 +3,7 @@
 ghost use Rattle.std.specs.Prelude.{◌≡◌, ◌+◌, ◌*◌, ◌<◌, ◌++◌, OnOk, List, decimal, true, ◌↔◌};
 ghost use Rattle.std.specs.Fmt.{signed_decimal};
 ghost use Rattle.mesh_model.specs.Text.{frame_line, viewer_line, level_line, region_text, sign_text, five_digits, height_text, vertex_line, triangle_line};
-ghost use Rattle.obj_frames.specs.Digits.{HasSix, three_digits as three_of, six_digits as six_of, numbers_line};
+ghost use Rattle.obj_frames.specs.Digits.{HasSix, numbers_line, six_digits, three_digits};
 
 use crate::memory::NoMemory;
 use clip_regions::Region;
@@ -84,7 +84,7 @@ pub(crate) fn append_vertex(
 // The three digits of a number below 1000.
 fn three_digits(number: u32) -> [u8; 3]
     requires { number < 1000 }
-    ensures { result ≡ three_of number }
+    ensures { result ≡ three_digits number }
 {
     let rest = number % 100;
     [
@@ -97,7 +97,7 @@ fn three_digits(number: u32) -> [u8; 3]
 // The six digits of a number that has so many.
 fn six_digits(number: u64) -> [u8; 6]
     requires { HasSix number }
-    ensures { result ≡ six_of number }
+    ensures { result ≡ six_digits number }
 {
     let [a, b, c] = three_digits((number / 1000) as u32);
     let [d, e, f] = three_digits((number % 1000) as u32);

@@ -24,7 +24,8 @@ impl Model for Mesh {
 
     ghost view = { λ m. record { vertices = m.vertices.items; triangles = m.triangles.items; parts = m.parts.items } };
 
-    ghost invariant = { λ m. IsMesh (record { vertices = m.vertices.items; triangles = m.triangles.items; parts = m.parts.items }) };
+    ghost invariant = { λ m. IsMesh
+        (record { vertices = m.vertices.items; triangles = m.triangles.items; parts = m.parts.items }) };
 }
 
 impl Mesh {
@@ -39,6 +40,8 @@ impl Mesh {
         requires places { NameVertices (vec_len vertices) triangles.items }
         requires cover { CoverInOrder 0 (vec_len triangles) parts.items }
         requires bounds { BoundsHold vertices.items triangles.items parts.items }
+
+        // The mesh has these lists.
         ensures vertices { result.vertices ≡ vertices.items }
         ensures triangles { result.triangles ≡ triangles.items }
         ensures parts { result.parts ≡ parts.items }

@@ -1,7 +1,7 @@
 //! The text of a frame.
 
 ghost use Rattle.std.specs.Prelude.{◌≡◌, ◌++◌, IfOk, OnOk, flat_map};
-ghost use Rattle.mesh_model.specs.Text.{head_text, level_lines, vertex_line, triangle_line, frame_text as text_of_frame};
+ghost use Rattle.mesh_model.specs.Text.{head_text, level_lines, vertex_line, triangle_line, frame_text};
 
 use crate::lines::{append_frame, append_level, append_triangle, append_vertex, append_viewer};
 use crate::memory::NoMemory;
@@ -77,7 +77,7 @@ fn append_triangles(
 /// after the point, and a line `f a b c` for each triangle, its vertices counted from 1.
 pub fn frame_text(alloc: Global, mesh: &Mesh, header: &Header) -> Result<Vec<u8>, NoMemory>
     ensures text { IfOk result (λ text. text.items
-        ≡ text_of_frame header.now.number header.now.x header.now.y header.now.actives mesh.now) }
+        ≡ frame_text header.now.number header.now.x header.now.y header.now.actives mesh.now) }
 {
     let mut text = Vec::new(alloc);
     let mut digits = Buffer::new();

@@ -89,7 +89,8 @@ fn plain_length<R: Files>(rt: &R, name: &str) -> io::Result<u64> {
 // Reads once into the chunk, and again where the read was interrupted.
 fn read_some<F: Read>(file: &mut F, chunk: &mut [u8]) -> io::Result<usize>
     ensures within { IfOk result (λ count. count ≤ length chunk.new) }
-    ensures taken { IfOk result (λ count. Consumes (F.remaining file.old) (F.remaining file.new) (take count chunk.new)) }
+    ensures taken { IfOk result (λ count. Consumes (F.remaining file.old) (F.remaining file.new)
+        (take count chunk.new)) }
     ensures end { IfOk result (λ count. count ≡ 0 → 0 < length chunk.old → IsAtEnd (F.remaining file.new)) }
     ensures kept { OnErr result (Keeps (F.remaining file.old) (F.remaining file.new)) }
 {
@@ -111,7 +112,8 @@ fn read_past_limit<F: Read>(
     expected: u64,
     limit: u64,
 ) -> io::Result<Vec<u8>>
-    ensures front { IfOk result (λ bytes. IfSome (F.remaining file.old) (λ rest. bytes.items ≡ take (one_more limit) rest)) }
+    ensures front { IfOk result (λ bytes. IfSome (F.remaining file.old) (λ rest. bytes.items ≡
+        take (one_more limit) rest)) }
     ensures taken { TakesFront (one_more limit) (F.remaining file.old) (F.remaining file.new) }
 {
     let most = limit.saturating_add(1);

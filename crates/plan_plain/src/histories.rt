@@ -41,7 +41,8 @@ fn answers(alloc: Global, state: &mut PlainState, entry: Entry) -> Result<bool, 
     requires sound { IsReady state.old }
     requires pass { entry.pass < 16 }
     requires allowed { IsAllowed state.old entry.pass entry.event }
-    ensures value { IfOk result (λ same. IsTrue same ↔ ((step state.old entry.pass entry.event).answer ≡ entry.answer)) }
+    ensures value { IfOk result (λ same. IsTrue same ↔ ((step state.old entry.pass entry.event).answer ≡
+        entry.answer)) }
     ensures state { IfOk result (λ same. state.new ≡ (step state.old entry.pass entry.event).state) }
     ensures sound { (n : ℕ) → IsSound n state.old → IsSound (n + 1) state.new }
 {

@@ -37,6 +37,8 @@ fn step(alloc: Global, run: &mut PlainRun, p: u8, event: Event) -> Result<Answer
     requires few { length run.old.history < 2 ^ 62 }
     requires pass { p < 16 }
     requires taken { IsTaken (length run.old.state.levels) event }
+
+    // It is the step of the definition.
     ensures value { OnOk result (run.new ≡ then_step run.old p event) }
     ensures answer { IfOk result (λ answer. answer ≡ (step run.old.state p event).answer) }
     ensures after { IsAfter 1 run.old run.new }
@@ -269,6 +271,8 @@ pub fn flight(
     requires workers { workers < 16 }
     requires lines { length script.now < 2 ^ 32 }
     requires flown { All IsFlown script.now }
+
+    // It is the flight of the definition, and sound.
     ensures value { IfOk result (λ run. run ≡ flight k levels workers script.now) }
     ensures sound { IfOk result IsSoundRun }
 {

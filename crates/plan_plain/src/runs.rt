@@ -82,9 +82,13 @@ impl PlainRun {
         requires few { length self.old.history < 2 ^ 62 }
         requires pass { p < 16 }
         requires taken { IsTaken (length self.old.state.levels) event }
+
+        // The run and the answer are those of the definition, or nothing changes.
         ensures run { OnOk result (self.new ≡ then_step self.old p event) }
         ensures unchanged { OnErr result (self.new ≡ self.old) }
         ensures answer { IfOk result (λ answer. answer ≡ (step self.old.state p event).answer) }
+
+        // The run stays sound and of one size.
         ensures sound { IsSoundRun self.new }
         ensures grown { length self.new.history ≤ length self.old.history + 1 }
         ensures k { self.new.state.k ≡ self.old.state.k }

@@ -1,16 +1,16 @@
 -- Strips and grown regions lie in their window.
-use Rattle.std.proofs.Common.{◌≡◌, Bool, true, false, ℤ, ◌≤ℤ◌, List, [], ◌∷◌, filter, refl, ap, sym, ◌∙◌, subst, inl, inr, arith}
+use Rattle.std.proofs.Common.{◌≡◌, false, ap, sym, ◌∙◌, subst, inl, inr, arith}
 use Rattle.std.specs.Option.{IfSome}
 use Rattle.std.proofs.lemmas.Int.{ints, clamps}
-use Rattle.std.proofs.lemmas.Bool.{or_from, not-true, cond_both}
+use Rattle.std.proofs.lemmas.Bool.{or_from}
 use lib.Signed.{lt_z}
 use Rattle.clip_regions.specs.declared.region.Region.{Region}
-use Rattle.clip_regions.specs.Regions.{is_empty, empty_region}
-use Rattle.plan_model.specs.Strips.{first_of, has_cell, left_of, right_of, above, below, current_strip, hull}
+use Rattle.clip_regions.specs.Regions.{is_empty}
+use Rattle.plan_model.specs.Strips.{first_of, current_strip, hull}
 use Rattle.plan_model.specs.Sound.{IsInside, IsFilledPart}
 use Rattle.plan_plain_pieces.specs.Spans.{span}
 use Rattle.plan_plain_pieces.proofs.Cases.{strips_none, strips_around, hull_right, hull_both}
-use Rattle.plan_sound.proofs.Parts.{IsOrdered, ordered, not_less, inside_some, around_inside}
+use Rattle.plan_sound.proofs.Parts.{IsOrdered, not_less, inside_some, around_inside}
 use Rattle.clip_regions.proofs.Cells.{empty_is_empty}
 
 -- ---- regions that have a cell

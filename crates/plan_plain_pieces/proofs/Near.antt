@@ -1,11 +1,9 @@
 -- Meets that stay near the mosaic's corner.
 use Rattle.std.proofs.Common.{ℕ, ◌≤◌, arith}
 use Rattle.std.proofs.lemmas.Int.{ints, clamps}
-use Rattle.std.proofs.lemmas.Bool.{cond_both}
-use Rattle.std.specs.Int.{int_min, int_max}
 use Rattle.clip_regions.specs.declared.region.Region.{Region}
-use Rattle.clip_regions.specs.Regions.{is_empty, empty_region, spelled, meet, IsWithin}
-use Rattle.plan_sound.proofs.Parts.{IsOrdered, ordered, meet_by}
+use Rattle.clip_regions.specs.Regions.{meet, IsWithin}
+use Rattle.plan_sound.proofs.Parts.{IsOrdered, meet_by}
 use Rattle.clip_regions.proofs.Cells.{empty_within, both}
 
 both_within : (n : ℕ) (a b : Region) → IsWithin n a → IsOrdered (both a b) → IsWithin n (both a b)

@@ -1,10 +1,7 @@
 -- Signed numbers: a number that went to its bits and was read again, and how far one is above another.
-use Rattle.std.proofs.Common.{◌≡◌, ℕ, ℤ, pos, negsuc, ◌-ℤ◌, ◌≤ℤ◌, ◌∙◌, arith}
-use Rattle.std.proofs.lemmas.Int.{to_z-of_z, ints}
-use Rattle.std.specs.Int.{int_gap, int_min, int_max}
-use mathlib.Core.Path.{ap₂}
-use mir.Syntax.{w32}
-use mir.Val.{SFits, of_z, to_z}
+use Rattle.std.proofs.Common.{◌≡◌, ℕ, ℤ, pos, ◌-ℤ◌, ◌≤ℤ◌, arith}
+use Rattle.std.proofs.lemmas.Int.{ints}
+use Rattle.std.specs.Int.{int_gap}
 use Rattle.clip_regions.proofs.Sizes.{gap_is}
 
 -- a natural number that is a difference is the gap

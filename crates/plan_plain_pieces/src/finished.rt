@@ -38,7 +38,8 @@ pub fn finished_with(
     finished: &[Piece],
     piece: Piece,
 ) -> Result<Vec<Piece>, AllocError>
-    ensures value { IfOk result (λ v. v.items ≡ filter (λ other. same_block other piece || is_finished finished.now other) all.now) }
+    ensures value { IfOk result (λ v. v.items ≡ filter (λ other. same_block other piece ||
+        is_finished finished.now other) all.now) }
 {
     all.iter()
         .copied()

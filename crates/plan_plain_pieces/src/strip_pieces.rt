@@ -130,7 +130,8 @@ fn push_row(out: &mut Vec<Piece>, region: Region, row: BlockRow) -> Result<(), A
     requires order { region.x0 ≤ℤ region.x1 }
     requires by_low { neg_ℤ (pos (2 ^ 24)) ≤ℤ row.by }
     requires by_high { row.by ≤ℤ pos (2 ^ 24) }
-    ensures value { IfOk result (λ _. out.new.items ≡ out.old.items ++ map (λ bx. piece_in region bx row.by) (block_columns region)) }
+    ensures value { IfOk result (λ _. out.new.items ≡ out.old.items ++
+        map (λ bx. piece_in region bx row.by) (block_columns region)) }
 {
     for i in 0..column_count(region) {
         let piece = piece_at(region, row, i);

@@ -15,7 +15,8 @@ use std::alloc::{AllocError, Global};
 
 // Adds the tiles of one row of a torus.
 fn push_row(out: &mut Vec<TileId>, side: u8, ty: u8) -> Result<(), AllocError>
-    ensures value { IfOk result (λ _. out.new.items ≡ out.old.items ++ map (λ tx. record { tx = tx; ty = ty }) (range_with_len 0 side)) }
+    ensures value { IfOk result (λ _. out.new.items ≡ out.old.items ++
+        map (λ tx. record { tx = tx; ty = ty }) (range_with_len 0 side)) }
 {
     for tx in 0..side {
         out.push(TileId { tx, ty })?;
@@ -66,7 +67,8 @@ pub fn meets_tile(alloc: Global, k: u8, region: Region, t: TileId) -> Result<boo
 // Those of some tiles in which the block of one of some pieces is kept.
 fn tiles_of(alloc: Global, k: u8, all: &[TileId], some: &[Piece]) -> Result<Vec<TileId>, AllocError>
     requires { IsSize k }
-    ensures value { IfOk result (λ v. v.items ≡ filter (λ t. list_any (λ p. same_tile (tile_of k p.bx p.by) t) some.now) all.now) }
+    ensures value { IfOk result (λ v. v.items ≡
+        filter (λ t. list_any (λ p. same_tile (tile_of k p.bx p.by) t) some.now) all.now) }
 {
     all.iter()
         .copied()

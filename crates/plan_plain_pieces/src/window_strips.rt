@@ -115,7 +115,8 @@ pub fn current_strip(
 ) -> Result<Option<Region>, AllocError>
     requires { IsWithin (2 ^ 24) filled }
     ensures value { IfOk result (λ strip. strip ≡ current_strip filled window) }
-    ensures inside { IsFilledPart window filled → IsInside window window → IfOk result (λ strip. IfSome strip (IsInside window)) }
+    ensures inside { IsFilledPart window filled → IsInside window window →
+        IfOk result (λ strip. IfSome strip (IsInside window)) }
 {
     let all = strips(alloc, filled, window)?;
     Ok(first_of(all.as_slice()))

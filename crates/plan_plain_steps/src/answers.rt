@@ -24,7 +24,8 @@ fn first_piece(some: &[Piece]) -> Option<Piece>
 // The coarsest level in use whose filled region isn't its window.
 fn coarsest_unfilled(state: &PlainState) -> Option<u8>
     requires { IsReady state.now }
-    ensures value { result ≡ first_of (filter (λ level. not (is_whole state.now level)) (used_from_coarsest state.now)) }
+    ensures value { result ≡ first_of (filter (λ level. not (is_whole state.now level))
+        (used_from_coarsest state.now)) }
     ensures there { IfSome result (λ level. level < length state.now.levels) }
 {
     let mut first = None;
@@ -101,7 +102,8 @@ impl PlainState {
     fn stuck(&self, alloc: Global, level: u8) -> Result<Answer, AllocError>
         requires sound { IsReady self.now }
         requires level { level < length self.now.levels }
-        ensures value { IfOk result (λ answer. answer ≡ ripe_or_blocked self.now level (first_of (unfinished_pieces self.now level))) }
+        ensures value { IfOk result (λ answer. answer ≡
+            ripe_or_blocked self.now level (first_of (unfinished_pieces self.now level))) }
     {
         let unfinished = self.unfinished_pieces(alloc, level)?;
         match first_piece(unfinished.as_slice()) {

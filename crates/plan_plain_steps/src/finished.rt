@@ -33,7 +33,8 @@ pub(crate) fn unfinished_in(
     some: &[Piece],
 ) -> Result<Vec<Piece>, AllocError>
     requires { level < length levels.now }
-    ensures value { IfOk result (λ v. v.items ≡ filter (λ piece. not (is_finished (slice_index_or levels.now level empty_level).finished piece)) some.now) }
+    ensures value { IfOk result (λ v. v.items ≡
+        filter (λ piece. not (is_finished (slice_index_or levels.now level empty_level).finished piece)) some.now) }
     ensures few { IfOk result (λ v. vec_len v ≤ length some.now) }
 {
     unfinished_of(alloc, levels[level as usize].finished(), some)
@@ -48,7 +49,8 @@ pub(crate) fn finished_more(
     piece: Piece,
 ) -> Result<Vec<Piece>, AllocError>
     requires { level < length levels.now }
-    ensures value { IfOk result (λ v. v.items ≡ filter (λ other. same_block other piece || is_finished (slice_index_or levels.now level empty_level).finished other) all.now) }
+    ensures value { IfOk result (λ v. v.items ≡ filter (λ other. same_block other piece ||
+        is_finished (slice_index_or levels.now level empty_level).finished other) all.now) }
 {
     finished_with(alloc, all, levels[level as usize].finished(), piece)
 }
@@ -98,7 +100,8 @@ impl PlainState {
     fn first_strip(&self, alloc: Global, level: u8) -> Result<Option<Region>, AllocError>
         requires sound { IsReady self.now }
         requires level { level < length self.now.levels }
-        ensures value { IfOk result (λ strip. strip ≡ current_strip (filled_at self.now level) (window_at self.now level)) }
+        ensures value { IfOk result (λ strip. strip ≡
+            current_strip (filled_at self.now level) (window_at self.now level)) }
         ensures within { IfOk result (λ strip. IfSome strip (IsWithin (2 ^ 24))) }
         ensures short { IfOk result (λ strip. IfSome strip IsShort) }
     {

@@ -63,7 +63,8 @@ fn filled_regions(alloc: Global, levels: &[PlainLevel]) -> Result<Vec<Region>, A
 
 // Adds some tiles of a level.
 fn push_tiles(out: &mut Vec<PlainTile>, level: u8, tiles: &[TileId]) -> Result<(), AllocError>
-    ensures value { OnOk result (out.new.items ≡ out.old.items ++ map (λ t. record { level = level; tile = t }) tiles.now) }
+    ensures value { OnOk result (out.new.items ≡ out.old.items ++
+        map (λ t. record { level = level; tile = t }) tiles.now) }
 {
     for tile in tiles {
         out.push(PlainTile::new(level, *tile))?;
@@ -79,7 +80,9 @@ fn held_under(
 ) -> Result<Vec<PlainTile>, AllocError>
     requires sound { IsReady state.now }
     requires active { All (IsWithin (2 ^ 24)) active.now }
-    ensures value { IfOk result (λ v. v.items ≡ flat_map (λ level. map (λ t. record { level = level; tile = t }) (held_tiles state.now level (slice_index_or active.now level empty_region))) (from_coarsest state.now)) }
+    ensures value { IfOk result (λ v. v.items ≡
+        flat_map (λ level. map (λ t. record { level = level; tile = t })
+        (held_tiles state.now level (slice_index_or active.now level empty_region))) (from_coarsest state.now)) }
 {
     let mut out = Vec::new(alloc);
     for level in (0..state.level_count()).rev() {

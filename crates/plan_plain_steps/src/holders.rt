@@ -38,7 +38,8 @@ pub(crate) fn or_found(first: Option<u8>, found: bool, p: u8) -> Option<u8>
 pub fn holder_of(k: u8, passes: &[Work<PlainFrame>], level: u8, t: TileId) -> Option<u8>
     requires k { IsSize k }
     requires few { length passes.now ≤ 256 }
-    ensures value { result ≡ first_of (filter (λ p. job_holds k level t (job_of (slice_index_or passes.now p Free))) (range_with_len 0 (length passes.now))) }
+    ensures value { result ≡ first_of (filter (λ p. job_holds k level t (job_of (slice_index_or passes.now p Free)))
+        (range_with_len 0 (length passes.now))) }
 {
     let mut first = None;
     for p in 0..passes.len() {

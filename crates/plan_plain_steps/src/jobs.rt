@@ -34,7 +34,8 @@ fn job_answer(job: JobNote) -> Answer
 // Forgets what one of some levels has finished, and puts this region in the place of what it has filled.
 fn fill_level(alloc: Global, levels: &mut [PlainLevel], level: u8, filled: Region)
     requires { level < length levels.old }
-    ensures value { levels.new ≡ slice_set levels.old level (record { filled = filled; finished = []; plan = (slice_index_or levels.old level empty_level).plan }) }
+    ensures value { levels.new ≡ slice_set levels.old level
+        (record { filled = filled; finished = []; plan = (slice_index_or levels.old level empty_level).plan }) }
 {
     let plan = levels[level as usize].plan();
     levels[level as usize] = PlainLevel {
@@ -47,7 +48,8 @@ fn fill_level(alloc: Global, levels: &mut [PlainLevel], level: u8, filled: Regio
 // Puts these pieces in the place of what one of some levels has finished.
 fn finish_level(levels: &mut [PlainLevel], level: u8, finished: Vec<Piece>)
     requires { level < length levels.old }
-    ensures value { levels.new ≡ slice_set levels.old level (record (slice_index_or levels.old level empty_level) { finished = finished.items }) }
+    ensures value { levels.new ≡ slice_set levels.old level
+        (record (slice_index_or levels.old level empty_level) { finished = finished.items }) }
 {
     let filled = levels[level as usize].filled();
     let plan = levels[level as usize].plan();
@@ -107,7 +109,8 @@ impl PlainState {
     // Puts these pieces in the place of what a level has finished.
     fn set_finished(&mut self, level: u8, finished: Vec<Piece>)
         requires { level < length self.old.levels }
-        ensures value { self.new ≡ with_level self.old level (record (level_at self.old level) { finished = finished.items }) }
+        ensures value { self.new ≡ with_level self.old level
+            (record (level_at self.old level) { finished = finished.items }) }
     {
         finish_level(self.levels.as_mut_slice(), level, finished);
     }

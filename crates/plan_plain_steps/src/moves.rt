@@ -52,7 +52,8 @@ fn is_used(k: u8, levels: u8, altitude: u32, level: u8) -> bool
 fn same_use(k: u8, levels: u8, from: Viewer, to: Viewer, level: u8) -> bool
     requires k { IsSize k }
     requires levels { IsLevelCount levels }
-    ensures value { result ≡ beq (nat_le (finest_used k levels from.a) level) (nat_le (finest_used k levels to.a) level) }
+    ensures value { result ≡ beq (nat_le (finest_used k levels from.a) level)
+        (nat_le (finest_used k levels to.a) level) }
 {
     is_used(k, levels, from.a, level) == is_used(k, levels, to.a, level)
 }
@@ -94,8 +95,11 @@ fn move_levels(levels: &mut [PlainLevel], k: u8, from: Viewer, to: Viewer)
     requires many { IsLevelCount (length levels.old) }
     requires from { IsViewer from.x from.y from.a }
     requires to { IsViewer to.x to.y to.a }
-    requires sound { (level : ℕ) → level < length levels.old → IsSoundLevel (2 ^ 63) (window k level from.x from.y) (slice_index_or levels.old level empty_level) }
-    ensures value { levels.new ≡ map (λ level. moved_level (stays_for k (length levels.old) from to level) (window k level to.x to.y) (slice_index_or levels.old level empty_level)) (range_with_len 0 (length levels.old)) }
+    requires sound { (level : ℕ) → level < length levels.old →
+        IsSoundLevel (2 ^ 63) (window k level from.x from.y) (slice_index_or levels.old level empty_level) }
+    ensures value { levels.new ≡ map (λ level. moved_level (stays_for k (length levels.old) from to level)
+        (window k level to.x to.y) (slice_index_or levels.old level empty_level))
+        (range_with_len 0 (length levels.old)) }
 {
     windows_are_near();
     let count = levels.len() as u8;

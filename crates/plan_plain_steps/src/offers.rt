@@ -153,7 +153,8 @@ impl PlainState {
     fn is_free(&self, level: u8, piece: Piece) -> bool
         requires sound { IsReady self.now }
         requires level { level < length self.now.levels }
-        ensures value { result ≡ (not (is_finished (level_at self.now level).finished piece) && not (is_held self.now level (tile_of_piece self.now piece))) }
+        ensures value { result ≡ (not (is_finished (level_at self.now level).finished piece) &&
+            not (is_held self.now level (tile_of_piece self.now piece))) }
     {
         !self.is_finished(level, piece) && !self.is_held(level, self.tile_of_piece(piece))
     }
@@ -163,7 +164,8 @@ impl PlainState {
         requires sound { IsReady self.now }
         requires level { level < length self.now.levels }
         requires cells { IsWithin (2 ^ 24) piece.cells }
-        ensures value { IfOk result (λ clear. clear ≡ (not (is_pinned self.now level (tile_of_piece self.now piece)) && not (is_some (first_of (held_needs self.now level piece))))) }
+        ensures value { IfOk result (λ clear. clear ≡ (not (is_pinned self.now level (tile_of_piece self.now piece)) &&
+            not (is_some (first_of (held_needs self.now level piece))))) }
     {
         let pinned = self.is_pinned(alloc, level, self.tile_of_piece(piece))?;
         let held = self.held_needs(alloc, level, piece)?;
@@ -207,7 +209,8 @@ fn push_where(
     piece: Piece,
     wanted: bool,
 ) -> Result<(), AllocError>
-    ensures value { OnOk result (out.new.items ≡ out.old.items ++ (if wanted then record { level = level; piece = piece } ∷ [] else [])) }
+    ensures value { OnOk result (out.new.items ≡ out.old.items ++
+        (if wanted then record { level = level; piece = piece } ∷ [] else [])) }
 {
     if wanted {
         out.push(PlainOffer::new(level, piece))?;
@@ -225,7 +228,8 @@ fn claimable_of(
     requires sound { IsReady state.now }
     requires level { level < length state.now.levels }
     requires cells { All (λ piece. IsWithin (2 ^ 24) piece.cells) some.now }
-    ensures value { IfOk result (λ v. v.items ≡ map (λ piece. record { level = level; piece = piece }) (filter (is_claimable state.now level) some.now)) }
+    ensures value { IfOk result (λ v. v.items ≡
+        map (λ piece. record { level = level; piece = piece }) (filter (is_claimable state.now level) some.now)) }
 {
     let mut out = Vec::new(alloc);
     for piece in some {
@@ -269,7 +273,8 @@ fn offers_at(alloc: Global, state: &PlainState, level: u8) -> Result<Vec<PlainOf
 // All claimable pieces of the levels in use, the coarsest level first.
 fn offers_from_coarsest(alloc: Global, state: &PlainState) -> Result<Vec<PlainOffer>, AllocError>
     requires { IsReady state.now }
-    ensures value { IfOk result (λ v. v.items ≡ flat_map (λ level. offers_of state.now level (strip_at state.now level)) (used_from_coarsest state.now)) }
+    ensures value { IfOk result (λ v. v.items ≡
+        flat_map (λ level. offers_of state.now level (strip_at state.now level)) (used_from_coarsest state.now)) }
 {
     let mut out = Vec::new(alloc);
     for level in (state.finest()..state.level_count()).rev() {

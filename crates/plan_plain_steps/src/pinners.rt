@@ -91,7 +91,8 @@ pub fn pinner_of(
 ) -> Result<Option<u64>, AllocError>
     requires k { IsSize k }
     requires frames { All (λ pass. IfSome (frame_of pass) (λ frame. All (IsWithin (2 ^ 24)) frame.actives)) passes.now }
-    ensures value { IfOk result (λ least. least ≡ fold lesser None (flat_map (λ pass. pins_of k level t (frame_of pass)) passes.now)) }
+    ensures value { IfOk result (λ least. least ≡
+        fold lesser None (flat_map (λ pass. pins_of k level t (frame_of pass)) passes.now)) }
 {
     let mut least = None;
     for p in 0..passes.len() {

@@ -62,9 +62,13 @@ impl PlainState {
         requires sound { IsReady self.old }
         requires pass { p < 16 }
         requires taken { IsTaken (length self.old.levels) event }
+
+        // The answer and the state are those of the definition, or nothing changes.
         ensures answer { IfOk result (λ answer. answer ≡ (step self.old p event).answer) }
         ensures state { OnOk result (self.new ≡ (step self.old p event).state) }
         ensures unchanged { OnErr result (self.new ≡ self.old) }
+
+        // The state stays sound and of one size.
         ensures sound { (n : ℕ) → IsSound n self.old → IsSound (n + 1) self.new }
         ensures k { self.new.k ≡ self.old.k }
         ensures levels { length self.new.levels ≡ length self.old.levels }

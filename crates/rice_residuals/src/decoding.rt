@@ -10,7 +10,7 @@ use crate::folding::unfold;
 use crate::reader::BitReader;
 use crate::residuals::Residuals;
 
-/// The number of a high part and `count` low bits.
+// The number of a high part and `count` low bits.
 #[inline]
 fn joined(high: u32, count: u8, low: u32) -> u32
     requires high { high < 32 }
@@ -21,7 +21,7 @@ fn joined(high: u32, count: u8, low: u32) -> u32
     (high << count) + low
 }
 
-/// Takes one code, and gives the folded residual.
+// Takes one code, and gives the folded residual.
 #[inline]
 fn read_code(reader: &mut BitReader<'_>, parameter: u8) -> Result<u32, BlockFault>
     requires { parameter < 16 }
@@ -53,10 +53,12 @@ fn read_code(reader: &mut BitReader<'_>, parameter: u8) -> Result<u32, BlockFaul
     Ok(short)
 }
 
-/// Takes so many codes.
+// Takes so many codes.
 fn read_codes(reader: &mut BitReader<'_>, parameter: u8, count: u8) -> Result<Residuals, BlockFault>
     requires parameter { parameter < 16 }
     requires count { count ≤ 64 }
+
+    // So many residuals, whose codes were the next bits; or the first fault.
     ensures count { IfOk result (λ found. found.count ≡ count) }
     ensures length { IfOk result (λ found. length (residual_list found) ≡ count) }
     ensures codes { IfOk result (λ found. reader.old.left ≡ codes parameter (residual_list found) ++ reader.new.left) }
@@ -71,7 +73,7 @@ fn read_codes(reader: &mut BitReader<'_>, parameter: u8, count: u8) -> Result<Re
     Ok(found)
 }
 
-/// How many zeros stand before the first one of `count` bits.
+// How many zeros stand before the first one of `count` bits.
 fn zeros_before(bits: u32, count: u32) -> u32
     requires some { 0 < bits }
     requires below { bits < 2 ^ count }
@@ -82,7 +84,7 @@ fn zeros_before(bits: u32, count: u32) -> u32
     bits.leading_zeros() - (32 - count)
 }
 
-/// Takes the rest of the last begun byte, and sees that it is zero and that no more bytes follow.
+// Takes the rest of the last begun byte, and sees that it is zero and that no more bytes follow.
 fn read_end(reader: &mut BitReader<'_>) -> Result<(), BlockFault>
     requires begun { 0 < reader.old.place }
     requires whole { (reader.old.place + length reader.old.left) % 8 ≡ 0 }
@@ -106,7 +108,7 @@ fn read_end(reader: &mut BitReader<'_>) -> Result<(), BlockFault>
     Ok(())
 }
 
-/// The residuals of a word, or the first fault.
+// The residuals of a word, or the first fault.
 fn read_word(bytes: &[u8], count: u8) -> Result<Residuals, BlockFault>
     requires bytes { length bytes.now < 65536 }
     requires count { count ≤ 64 }
@@ -129,8 +131,8 @@ fn read_word(bytes: &[u8], count: u8) -> Result<Residuals, BlockFault>
     }
 }
 
-/// The residuals of a word of `count` residuals, by any parameter, or the first fault in the order in which bits are taken.
-/// At most 2^16 - 1 bytes are read, and no memory is taken.
+/// The residuals of a word of `count` residuals, by any parameter, or the first fault in the order in which bits are
+/// taken. At most 2^16 - 1 bytes are read, and no memory is taken.
 pub fn read_block(bytes: &[u8], count: u8) -> Result<Residuals, BlockFault>
     requires bytes { length bytes.now < 65536 }
     requires count { count ≤ 64 }
@@ -143,10 +145,14 @@ pub fn read_block(bytes: &[u8], count: u8) -> Result<Residuals, BlockFault>
         → IsOkAnd result (λ found. residual_list found ≡ residuals) }
 
     // Each fault comes exactly where it is the first one.
-    ensures cut_short { (bit : ℕ) → (result ≡ Err (BlockFault.CutShort bit)) ↔ HasFault count bytes.now (BlockFault.CutShort bit) }
-    ensures long_form { (bit : ℕ) → (result ≡ Err (BlockFault.LongForm bit)) ↔ HasFault count bytes.now (BlockFault.LongForm bit) }
-    ensures too_wide { (bit : ℕ) → (result ≡ Err (BlockFault.TooWide bit)) ↔ HasFault count bytes.now (BlockFault.TooWide bit) }
-    ensures bad_padding { (bit : ℕ) → (result ≡ Err (BlockFault.BadPadding bit)) ↔ HasFault count bytes.now (BlockFault.BadPadding bit) }
+    ensures cut_short { (bit : ℕ) → (result ≡ Err (BlockFault.CutShort bit)) ↔
+        HasFault count bytes.now (BlockFault.CutShort bit) }
+    ensures long_form { (bit : ℕ) → (result ≡ Err (BlockFault.LongForm bit)) ↔
+        HasFault count bytes.now (BlockFault.LongForm bit) }
+    ensures too_wide { (bit : ℕ) → (result ≡ Err (BlockFault.TooWide bit)) ↔
+        HasFault count bytes.now (BlockFault.TooWide bit) }
+    ensures bad_padding { (bit : ℕ) → (result ≡ Err (BlockFault.BadPadding bit)) ↔
+        HasFault count bytes.now (BlockFault.BadPadding bit) }
     ensures excess { (n : ℕ) → (result ≡ Err (BlockFault.Excess n)) ↔ HasFault count bytes.now (BlockFault.Excess n) }
 {
     read_word(bytes, count)

@@ -11,7 +11,7 @@ use crate::residuals::Residuals;
 use crate::writer::BitWriter;
 use std::alloc::Global;
 
-/// How many bits the code of a folded residual has.
+// How many bits the code of a folded residual has.
 #[inline]
 fn code_length(folded: u32, parameter: u8) -> u32
     requires { parameter < 16 }
@@ -26,7 +26,7 @@ fn code_length(folded: u32, parameter: u8) -> u32
     }
 }
 
-/// How many bits the codes of the residuals have together.
+// How many bits the codes of the residuals have together.
 fn codes_length(residuals: &[i32], parameter: u8) -> u32
     requires parameter { parameter < 16 }
     requires few { length residuals.now ≤ 64 }
@@ -40,7 +40,7 @@ fn codes_length(residuals: &[i32], parameter: u8) -> u32
     total
 }
 
-/// The parameter of fewest bits, the least one on a tie.
+// The parameter of fewest bits, the least one on a tie.
 fn parameter_of(residuals: &[i32]) -> u8
     requires few { length residuals.now ≤ 64 }
     requires in_range { All IsResidual residuals.now }
@@ -64,7 +64,7 @@ fn parameter_of(residuals: &[i32]) -> u8
     best
 }
 
-/// So many ones and a zero behind them.
+// So many ones and a zero behind them.
 #[inline]
 fn run_of_ones(ones: u32) -> u32
     requires { ones < 32 }
@@ -74,7 +74,7 @@ fn run_of_ones(ones: u32) -> u32
     (u32::MAX >> (31 - ones)) - 1
 }
 
-/// The short form as one number: so many ones, a zero and the low bits.
+// The short form as one number: so many ones, a zero and the low bits.
 #[inline]
 fn short_form(ones: u32, parameter: u8, low: u32) -> u32
     requires short { ones + parameter < 32 }
@@ -85,7 +85,7 @@ fn short_form(ones: u32, parameter: u8, low: u32) -> u32
     (run_of_ones(ones) << parameter) + low
 }
 
-/// Puts the code of a folded residual.
+// Puts the code of a folded residual.
 #[inline]
 fn write_code(writer: &mut BitWriter, folded: u32, parameter: u8) -> Result<(), NoMemory>
     requires folded { folded < 262144 }
@@ -108,7 +108,7 @@ fn write_code(writer: &mut BitWriter, folded: u32, parameter: u8) -> Result<(), 
     Ok(())
 }
 
-/// Puts the codes of residuals, one behind another.
+// Puts the codes of residuals, one behind another.
 fn write_codes(writer: &mut BitWriter, residuals: &[i32], parameter: u8) -> Result<(), NoMemory>
     requires parameter { parameter < 16 }
     requires in_range { All IsResidual residuals.now }

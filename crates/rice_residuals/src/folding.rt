@@ -1,7 +1,8 @@
 ghost use Rattle.std.specs.Prelude.{◌≡◌, ◌<◌, ◌^◌};
 ghost use Rattle.rice_residuals.specs.Code.{IsResidual, folded};
 
-/// The unsigned number for a residual: 2x where x is not negative, else -2x - 1. So 0, -1, 1, -2, 2 become 0, 1, 2, 3, 4.
+/// The unsigned number for a residual: 2x where x is not negative, else -2x - 1. So 0, -1, 1, -2, 2 become 0, 1, 2, 3
+/// and 4.
 #[inline]
 pub fn fold(value: i32) -> u32
     requires { IsResidual value }

@@ -26,7 +26,8 @@ pub fn canonical_word_is_a_word()
         → length (word_bits (best_parameter xs) xs) ≤ length (word_bits r xs) }
     ensures least { (xs : List ℤ) → (r : ℕ) → r < best_parameter xs
         → length (word_bits (best_parameter xs) xs) < length (word_bits r xs) }
-    ensures shortest { (xs : List ℤ) → (bytes : List ℕ) → IsWordOf xs bytes → length (canonical_word xs) ≤ length bytes }
+    ensures shortest { (xs : List ℤ) → (bytes : List ℕ) → IsWordOf xs bytes →
+        length (canonical_word xs) ≤ length bytes }
 {}
 
 /// The canonical word of up to 64 residuals has at most 401 bytes.

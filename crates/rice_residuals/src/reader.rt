@@ -5,8 +5,8 @@ ghost use Rattle.rice_residuals.specs.Faults.{form, low_length};
 use crate::register::{Register, low_of, ready};
 use std::marker::Model;
 
-/// Takes bits from bytes, the high end of each byte first. Contracts see the place, which is the number of bits that were
-/// taken, and the list of the bits that are left.
+/// Takes bits from bytes, the high end of each byte first. Contracts see the place, which is the number of bits that
+/// were taken, and the list of the bits that are left.
 #[derive(Drop)]
 pub struct BitReader<'a> {
     bytes: &'a [u8],
@@ -86,7 +86,8 @@ impl BitReader<'_> {
 
         ensures ones { IfSome result (λ ones. ones ≤ 32) }
         ensures bits { IfSome result (λ ones. self.old.left ≡ form ones self.new.left) }
-        ensures end { IfSome result (λ _. self.new.place + length self.new.left ≡ self.old.place + length self.old.left) }
+        ensures end { IfSome result (λ _. self.new.place + length self.new.left ≡
+            self.old.place + length self.old.left) }
     {
         let register = ready(self.bytes, self.register, 32);
         let ones = ones_of(register.bits, register.held);
@@ -104,14 +105,15 @@ impl BitReader<'_> {
     }
 }
 
-/// The ones at the head of the low `held` bits, at most 32.
+// The ones at the head of the low `held` bits, at most 32.
 #[inline]
 fn ones_of(bits: u64, held: u32) -> u32
     requires { held < 64 }
     ensures few { result ≤ 32 }
     ensures held { result ≤ held }
     ensures run { low_bits held bits ≡ replicate result true ++ low_bits (held - result) bits }
-    ensures zero { result < 32 → result < held → low_bits (held - result) bits ≡ false ∷ low_bits (held - result - 1) bits }
+    ensures zero { result < 32 → result < held → low_bits (held - result) bits ≡
+        false ∷ low_bits (held - result - 1) bits }
 {
     if held == 0 {
         return 0;

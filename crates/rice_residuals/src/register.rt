@@ -10,14 +10,14 @@ pub struct Register {
     pub held: u32,
 }
 
-/// Bytes from the front of a slice as one number.
+// Bytes from the front of a slice as one number.
 #[derive(Clone, Copy)]
 struct Run {
     bits: u32,
     bytes: u32,
 }
 
-/// The first four bytes, or all where there are fewer.
+// The first four bytes, or all where there are fewer.
 #[inline]
 fn front_run(bytes: &[u8]) -> Run
     ensures within { result.bytes ≤ length bytes.now }
@@ -47,7 +47,7 @@ fn front_run(bytes: &[u8]) -> Run
     }
 }
 
-/// The register with at least 32 bits, or with all that are left.
+// The register with at least 32 bits, or with all that are left.
 #[inline]
 fn filled(bytes: &[u8], register: Register) -> Register
     requires sound { IsSound bytes.now register }

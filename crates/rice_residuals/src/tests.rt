@@ -5,7 +5,7 @@ use std::alloc::Global;
 use std::process::Abort;
 use std::test::Fail;
 
-/// The residuals of a list, which are in range and at most 64.
+// The residuals of a list, which are in range and at most 64.
 fn residuals_of(values: &[i32]) -> Residuals {
     let mut residuals = Residuals::none();
     for value in values {
@@ -96,8 +96,8 @@ fn refuses_by_the_first_fault(rt: HostRuntime) -> Result<(), Fail> {
     Ok(())
 }
 
-/// Which answer the eight bytes get: 0 for a word, which is then written and read again, or else the fault's place in the
-/// list of the variants.
+// Which answer the eight bytes get: 0 for a word, which is then written and read again, or else the fault's place in
+// the list of the variants.
 fn answer_of(rt: &impl Abort, alloc: Global, bytes: &[u8; 8]) -> Result<usize, Fail>
     ensures { IfOk result (λ answer. answer < 6) }
 {
@@ -117,8 +117,8 @@ fn answer_of(rt: &impl Abort, alloc: Global, bytes: &[u8; 8]) -> Result<usize, F
     }
 }
 
-/// Every cut of three words, and every change of one byte of one of them. How often each answer comes was counted by
-/// another program that reads the format.
+// Every cut of three words, and every change of one byte of one of them. How often each answer comes was counted by
+// another program that reads the format.
 #[test]
 fn judges_cuts_and_changes(rt: HostRuntime) -> Result<(), Fail> {
     let long = [0x03, 0xff, 0xff, 0xff, 0xfc, 0xea, 0x60, 0x00];

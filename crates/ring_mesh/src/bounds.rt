@@ -1,14 +1,14 @@
 //! The bounds of a part.
 
 ghost use Rattle.std.specs.Prelude.{◌≡◌, map, pos, get_or};
-ghost use Rattle.mesh_model.specs.Mesh.{vertices_of, bounds_of as box_of};
-ghost use Rattle.ring_mesh.specs.Boxes.{vertex_named as named_by, point_box, wider, widest, first_box as first_of};
+ghost use Rattle.mesh_model.specs.Mesh.{vertices_of, bounds_of};
+ghost use Rattle.ring_mesh.specs.Boxes.{point_box, wider, widest, first_box, vertex_named};
 
 use obj_frames::{Bounds, Vertex};
 
 // The vertex with this place, or (0, 0, 0) where there is none.
 fn vertex_named(vertices: &[Vertex], place: u32) -> Vertex
-    ensures { result ≡ named_by vertices.now place }
+    ensures { result ≡ vertex_named vertices.now place }
 {
     if (place as usize) < vertices.len() {
         vertices[place as usize]
@@ -51,7 +51,7 @@ fn widened(bounds: Bounds, vertex: &Vertex) -> Bounds
 
 // The least box that holds a box and the vertices with these places.
 fn widened_by(mut bounds: Bounds, vertices: &[Vertex], places: &[u32]) -> Bounds
-    ensures { result ≡ widest bounds (map (named_by vertices.now) places.now) }
+    ensures { result ≡ widest bounds (map (vertex_named vertices.now) places.now) }
 {
     for place in places {
         bounds = widened(bounds, &vertex_named(vertices, *place));
@@ -61,7 +61,7 @@ fn widened_by(mut bounds: Bounds, vertices: &[Vertex], places: &[u32]) -> Bounds
 
 // The box of the first vertex of some triangles, or that of the origin where there is none.
 fn first_box(vertices: &[Vertex], triangles: &[[u32; 3]]) -> Bounds
-    ensures { result ≡ first_of (vertices_of vertices.now triangles.now) }
+    ensures { result ≡ first_box (vertices_of vertices.now triangles.now) }
 {
     if triangles.is_empty() {
         return Bounds {
@@ -79,7 +79,7 @@ fn first_box(vertices: &[Vertex], triangles: &[[u32; 3]]) -> Bounds
 /// The least and greatest column, row and height of the vertices of some triangles, all 0 where there is
 /// none.
 pub fn bounds_of(vertices: &[Vertex], triangles: &[[u32; 3]]) -> Bounds
-    ensures value { result ≡ box_of (vertices_of vertices.now triangles.now) }
+    ensures value { result ≡ bounds_of (vertices_of vertices.now triangles.now) }
 {
     let mut bounds = first_box(vertices, triangles);
     for triangle in triangles {

@@ -5,7 +5,7 @@ ghost use Rattle.clip_regions.specs.Regions.{is_empty, IsWithin};
 ghost use Rattle.mesh_model.specs.declared.shapes.PartKind.TheVariants.{Whole, North, West, East, South};
 ghost use Rattle.mesh_model.specs.Parts.{squares_between};
 ghost use Rattle.mesh_model.specs.Mesh.{part_at, mesh_of_parts};
-ghost use Rattle.mesh_laws.specs.Rings.{no_ring as ring_before, ring_triangles, ring_part, ring_parts, ring_parts_from};
+ghost use Rattle.mesh_laws.specs.Rings.{ring_triangles, ring_part, ring_parts, ring_parts_from, no_ring};
 ghost use Rattle.mesh_laws.specs.Conditions.{IsCut, IsSmall, AreLinked};
 ghost use Rattle.ring_mesh.specs.Squares.{HasSquares};
 ghost use Rattle.ring_mesh.specs.Added.{Adds, triangles_of, HasBlock, north_block, west_block, east_block, south_block, block_part, parts_around};
@@ -63,7 +63,9 @@ pub fn add_part(
 ) -> Result<(), AllocError>
     requires few { length triangles.now < 2 ^ 31 }
     requires first { first ≤ length triangles.now }
-    ensures { OnOk result (parts.new.items ≡ parts.old.items ++ part_at vertices.now first (record { level = level; kind = kind; triangles = drop first triangles.now }) ∷ []) }
+    ensures { OnOk result (parts.new.items ≡ parts.old.items ++
+        part_at vertices.now first
+        (record { level = level; kind = kind; triangles = drop first triangles.now }) ∷ []) }
 {
     let part = part_of(vertices, &triangles[first..], level, kind);
     push_part(
@@ -88,7 +90,8 @@ fn add_squares_part(
     requires linked { AreLinked finer.now ring.now }
     requires squares { HasSquares ring.now.active squares.now }
     requires few { length faces.old.triangles.items + length (ring_triangles finer.now ring.now squares.now) < 2 ^ 31 }
-    ensures { OnOk result (Adds vertices.now (ring_part finer.now ring.now level kind squares.now ∷ []) faces.old.triangles.items faces.old.parts.items faces.new.triangles.items faces.new.parts.items) }
+    ensures { OnOk result (Adds vertices.now (ring_part finer.now ring.now level kind squares.now ∷ [])
+        faces.old.triangles.items faces.old.parts.items faces.new.triangles.items faces.new.parts.items) }
 {
     let first = faces.triangles.len();
     add_squares(&mut faces.triangles, finer, ring, squares)?;
@@ -176,8 +179,10 @@ fn add_block(
 ) -> Result<(), AllocError>
     requires linked { AreLinked finer.now ring.now }
     requires block { HasBlock ring.now.active block.now }
-    requires few { length faces.old.triangles.items + length (triangles_of (block_part finer.now ring.now level kind block.now ∷ [])) < 2 ^ 31 }
-    ensures { OnOk result (Adds vertices.now (block_part finer.now ring.now level kind block.now ∷ []) faces.old.triangles.items faces.old.parts.items faces.new.triangles.items faces.new.parts.items) }
+    requires few { length faces.old.triangles.items +
+        length (triangles_of (block_part finer.now ring.now level kind block.now ∷ [])) < 2 ^ 31 }
+    ensures { OnOk result (Adds vertices.now (block_part finer.now ring.now level kind block.now ∷ [])
+        faces.old.triangles.items faces.old.parts.items faces.new.triangles.items faces.new.parts.items) }
 {
     let squares = squares_of(block);
     add_squares_part(faces, vertices, finer, ring, level, kind, &squares)
@@ -193,8 +198,10 @@ fn add_around(
 ) -> Result<(), AllocError>
     requires linked { AreLinked finer.now ring.now }
     requires cut { IsCut ring.now.active ring.now.hole }
-    requires few { length faces.old.triangles.items + length (triangles_of (parts_around level finer.now ring.now)) < 2 ^ 31 }
-    ensures { OnOk result (Adds vertices.now (parts_around level finer.now ring.now) faces.old.triangles.items faces.old.parts.items faces.new.triangles.items faces.new.parts.items) }
+    requires few { length faces.old.triangles.items +
+        length (triangles_of (parts_around level finer.now ring.now)) < 2 ^ 31 }
+    ensures { OnOk result (Adds vertices.now (parts_around level finer.now ring.now)
+        faces.old.triangles.items faces.old.parts.items faces.new.triangles.items faces.new.parts.items) }
 {
     let north = north_of(&ring.active, &ring.hole);
     let west = west_of(&ring.active, &ring.hole);
@@ -215,8 +222,10 @@ fn add_ring(
     level: u8,
 ) -> Result<(), AllocError>
     requires linked { AreLinked finer.now ring.now }
-    requires few { length faces.old.triangles.items + length (triangles_of (ring_parts level finer.now ring.now)) < 2 ^ 31 }
-    ensures { OnOk result (Adds vertices.now (ring_parts level finer.now ring.now) faces.old.triangles.items faces.old.parts.items faces.new.triangles.items faces.new.parts.items) }
+    requires few { length faces.old.triangles.items +
+        length (triangles_of (ring_parts level finer.now ring.now)) < 2 ^ 31 }
+    ensures { OnOk result (Adds vertices.now (ring_parts level finer.now ring.now)
+        faces.old.triangles.items faces.old.parts.items faces.new.triangles.items faces.new.parts.items) }
 {
     if ring.active.is_empty() {
         return Ok(());
@@ -243,9 +252,11 @@ pub(crate) fn ring_faces(
     vertices: &[Vertex],
     actives: &Actives,
 ) -> Result<Faces, AllocError>
-    requires few { length (triangles_of (ring_parts_from 0 ring_before actives.now)) < 2 ^ 31 }
-    ensures triangles { IfOk result (λ faces. faces.triangles.items ≡ (mesh_of_parts vertices.now (ring_parts_from 0 ring_before actives.now)).triangles) }
-    ensures parts { IfOk result (λ faces. faces.parts.items ≡ (mesh_of_parts vertices.now (ring_parts_from 0 ring_before actives.now)).parts) }
+    requires few { length (triangles_of (ring_parts_from 0 no_ring actives.now)) < 2 ^ 31 }
+    ensures triangles { IfOk result (λ faces. faces.triangles.items ≡
+        (mesh_of_parts vertices.now (ring_parts_from 0 no_ring actives.now)).triangles) }
+    ensures parts { IfOk result (λ faces. faces.parts.items ≡
+        (mesh_of_parts vertices.now (ring_parts_from 0 no_ring actives.now)).parts) }
 {
     rings_are_linked();
     let mut faces = Faces {

@@ -4,7 +4,7 @@ ghost use Rattle.std.specs.Prelude.{◌≡◌, ◌+◌, ◌<◌, List, length, I
 ghost use Rattle.clip_regions.specs.declared.region.Region.{Region as PlainRegion};
 ghost use Rattle.clip_regions.specs.Regions.{contains};
 ghost use Rattle.terrain_model.specs.Terrain.{Terrain, level_height};
-ghost use Rattle.mesh_model.specs.Height.{active_of, lower_end, upper_end, vertex_height as height_of};
+ghost use Rattle.mesh_model.specs.Height.{active_of, lower_end, upper_end, vertex_height};
 ghost use Rattle.active_region.specs.Active.{AreActive};
 ghost use Rattle.mesh_laws.specs.Conditions.{IsCell};
 ghost use Rattle.ring_mesh.specs.Listed.{coarser_mean, HasHeights};
@@ -67,7 +67,7 @@ pub(crate) fn vertex_height<G: Heights>(
 ) -> i32
     requires heights { HasHeights k actives.now level (G.regions heights.now) }
     requires cell { IsCell (active_of actives.now level) i j }
-    ensures value { result ≡ height_of (G.terrain heights.now) k actives.now level i j }
+    ensures value { result ≡ vertex_height (G.terrain heights.now) k actives.now level i j }
 {
     holes_are_in_regions();
     let own = heights.height(level, i, j);

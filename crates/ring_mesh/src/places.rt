@@ -2,10 +2,10 @@
 
 ghost use Rattle.std.specs.Prelude.{◌≡◌, ◌+◌, ◌*◌, ◌^◌, ◌<◌, ◌≤◌, min, IsTrue, true, false, pos, neg_ℤ, ◌+ℤ◌, ◌*ℤ◌, ◌≤ℤ◌, if◌then◌else◌, int_lt};
 ghost use Rattle.std.specs.Int.{int_gap};
-ghost use Rattle.clip_regions.specs.Regions.{contains, rows as rows_of, IsWithin};
+ghost use Rattle.clip_regions.specs.Regions.{contains, IsWithin, rows};
 ghost use Rattle.plan_model.specs.Laws.{IsEvenOrEmpty};
-ghost use Rattle.mesh_model.specs.Vertices.{hole as hole_of};
-ghost use Rattle.mesh_laws.specs.Rings.{no_ring as ring_before, ring_size as size_of, next_ring as ring_after, passed_rows as rows_passed, listed_before as count_before, place_in as place_of, corner_of};
+ghost use Rattle.mesh_model.specs.Vertices.{hole};
+ghost use Rattle.mesh_laws.specs.Rings.{corner_of, listed_before, next_ring, no_ring, passed_rows, place_in, ring_size};
 ghost use Rattle.mesh_laws.specs.Conditions.{IsCell, IsSmall, IsRing, AreLinked};
 
 use crate::sizes::{area, columns, product, rows};
@@ -14,7 +14,7 @@ use mesh_laws::{Ring, holes_are_in_regions, rings_are_linked};
 
 /// The ring before the finest one, which has no cell.
 pub fn no_ring() -> Ring
-    ensures value { result ≡ ring_before }
+    ensures value { result ≡ no_ring }
 {
     Ring {
         active: Region::empty(),
@@ -28,7 +28,7 @@ pub fn no_ring() -> Ring
 fn hole(finer: Region) -> Region
     requires placed { IsWithin (2 ^ 24) finer }
     requires even { IsEvenOrEmpty finer }
-    ensures value { result ≡ hole_of finer }
+    ensures value { result ≡ hole finer }
 {
     if finer.is_empty() {
         Region::empty()
@@ -40,7 +40,7 @@ fn hole(finer: Region) -> Region
 // How many vertices a ring lists.
 pub(crate) fn ring_size(ring: &Ring) -> u32
     requires { IsRing ring.now }
-    ensures value { result ≡ size_of ring.now }
+    ensures value { result ≡ ring_size ring.now }
     ensures few { result ≤ 65025 }
 {
     holes_are_in_regions();
@@ -52,7 +52,7 @@ pub(crate) fn ring_size(ring: &Ring) -> u32
 pub fn next_ring(finer: &Ring, active: Region) -> Ring
     requires ring { IsRing finer.now }
     requires even { IsEvenOrEmpty finer.now.active }
-    ensures value { result ≡ ring_after finer.now active }
+    ensures value { result ≡ next_ring finer.now active }
 {
     Ring {
         active,
@@ -67,7 +67,7 @@ fn rows_before(hole: &Region, row: i32) -> u32
     requires hole { IsSmall hole.now }
     requires low { neg_ℤ (pos (2 ^ 25)) ≤ℤ row }
     requires high { row ≤ℤ pos (2 ^ 25) }
-    ensures value { result ≡ min (int_gap hole.now.y0 row) (rows_of hole.now) }
+    ensures value { result ≡ min (int_gap hole.now.y0 row) (rows hole.now) }
     ensures few { result ≤ 255 }
 {
     if row <= hole.y0 {
@@ -83,7 +83,7 @@ fn passed_rows(hole: &Region, i: i32, j: i32) -> u32
     requires hole { IsSmall hole.now }
     requires low { neg_ℤ (pos (2 ^ 24)) ≤ℤ j }
     requires high { j ≤ℤ pos (2 ^ 24) }
-    ensures value { result ≡ rows_passed hole.now i j }
+    ensures value { result ≡ passed_rows hole.now i j }
     ensures few { result ≤ 255 }
 {
     if hole.x1 < i {
@@ -119,7 +119,7 @@ fn listed_before(hole: &Region, active: &Region, i: i32, j: i32) -> u32
     requires hole { IsSmall hole.now }
     requires active { IsSmall active.now }
     requires cell { IsCell active.now i j }
-    ensures value { result ≡ count_before hole.now active.now i j }
+    ensures value { result ≡ listed_before hole.now active.now i j }
     ensures few { result ≤ 2 ^ 17 }
 {
     let whole = product(row_in(active, i, j), columns(active)) + column_in(active, i, j);
@@ -131,7 +131,7 @@ fn listed_before(hole: &Region, active: &Region, i: i32, j: i32) -> u32
 pub fn place_in(ring: &Ring, i: i32, j: i32) -> u32
     requires ring { IsRing ring.now }
     requires cell { IsCell ring.now.active i j }
-    ensures value { result ≡ place_of ring.now i j }
+    ensures value { result ≡ place_in ring.now i j }
     ensures few { result < 2 ^ 31 }
 {
     holes_are_in_regions();

@@ -2,7 +2,7 @@
 
 ghost use Rattle.std.specs.Prelude.{◌≡◌, ◌≤◌, ◌*◌, ◌^◌, pos, ◌+ℤ◌, ◌≤ℤ◌};
 ghost use Rattle.std.specs.Int.{int_gap};
-ghost use Rattle.clip_regions.specs.Regions.{IsWithin, columns as columns_of, rows as rows_of};
+ghost use Rattle.clip_regions.specs.Regions.{IsWithin, columns, rows};
 ghost use Rattle.mesh_laws.specs.Conditions.{IsSmall};
 
 use clip_regions::Region;
@@ -10,7 +10,7 @@ use clip_regions::Region;
 // How many columns a region has.
 pub(crate) fn columns(region: &Region) -> u32
     requires { IsWithin (2 ^ 25) region.now }
-    ensures value { result ≡ columns_of region.now }
+    ensures value { result ≡ columns region.now }
     ensures few { result ≤ 2 ^ 27 }
 {
     if region.x1 < region.x0 {
@@ -23,7 +23,7 @@ pub(crate) fn columns(region: &Region) -> u32
 // How many rows a region has.
 pub(crate) fn rows(region: &Region) -> u32
     requires { IsWithin (2 ^ 25) region.now }
-    ensures value { result ≡ rows_of region.now }
+    ensures value { result ≡ rows region.now }
     ensures few { result ≤ 2 ^ 27 }
 {
     if region.y1 < region.y0 {
@@ -37,7 +37,7 @@ pub(crate) fn rows(region: &Region) -> u32
 #[tactic(auto, using(crate::proofs::Wider::within_more))]
 pub(crate) fn area(region: &Region) -> u32
     requires { IsSmall region.now }
-    ensures value { result ≡ columns_of region.now * rows_of region.now }
+    ensures value { result ≡ columns region.now * rows region.now }
     ensures few { result ≤ 65025 }
 {
     product(columns(region), rows(region))

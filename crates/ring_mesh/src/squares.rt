@@ -1,7 +1,7 @@
 //! The triangles of squares, row by row.
 
 ghost use Rattle.std.specs.Prelude.{◌≡◌, ◌^◌, ◌<◌, ◌≤◌, ◌++◌, ◌∷◌, [], OnOk, pos, ◌+ℤ◌};
-ghost use Rattle.clip_regions.specs.Regions.{columns as columns_of, rows as rows_of};
+ghost use Rattle.clip_regions.specs.Regions.{columns, rows};
 ghost use Rattle.mesh_laws.specs.Rings.{corner_of, ring_triangles};
 ghost use Rattle.mesh_laws.specs.Conditions.{AreLinked};
 ghost use Rattle.ring_mesh.specs.Squares.{HasSquares, square_row};
@@ -24,13 +24,14 @@ struct Edge {
 fn side_at(finer: &Ring, ring: &Ring, squares: &Region, v: u32, u: u32) -> Edge
     requires linked { AreLinked finer.now ring.now }
     requires squares { HasSquares ring.now.active squares.now }
-    requires some { 0 < columns_of squares.now }
-    requires column { u ≤ columns_of squares.now }
-    requires row { v < rows_of squares.now }
+    requires some { 0 < columns squares.now }
+    requires column { u ≤ columns squares.now }
+    requires row { v < rows squares.now }
     requires few_columns { u ≤ 2 ^ 27 }
     requires few_rows { v < 2 ^ 28 }
     ensures north { result.north ≡ corner_of finer.now ring.now (squares.now.x0 +ℤ pos u) (squares.now.y0 +ℤ pos v) }
-    ensures south { result.south ≡ corner_of finer.now ring.now (squares.now.x0 +ℤ pos u) ((squares.now.y0 +ℤ pos v) +ℤ pos 1) }
+    ensures south { result.south ≡
+        corner_of finer.now ring.now (squares.now.x0 +ℤ pos u) ((squares.now.y0 +ℤ pos v) +ℤ pos 1) }
 {
     let i = squares.x0 + u as i32;
     let j = squares.y0 + v as i32;
@@ -43,7 +44,8 @@ fn side_at(finer: &Ring, ring: &Ring, squares: &Region, v: u32, u: u32) -> Edge
 // Adds the two triangles of the square between two sides.
 fn add_square(triangles: &mut Vec<[u32; 3]>, west: &Edge, east: &Edge) -> Result<(), AllocError>
     ensures { OnOk result (triangles.new.items ≡ triangles.old.items
-        ++ (west.now.north ∷ west.now.south ∷ east.now.south ∷ []) ∷ (west.now.north ∷ east.now.south ∷ east.now.north ∷ []) ∷ []) }
+        ++ (west.now.north ∷ west.now.south ∷ east.now.south ∷ [])
+        ∷ (west.now.north ∷ east.now.south ∷ east.now.north ∷ []) ∷ []) }
 {
     triangles.extend_from_slice(&[
         [west.north, west.south, east.south],
@@ -63,7 +65,7 @@ fn add_row(
 ) -> Result<(), AllocError>
     requires linked { AreLinked finer.now ring.now }
     requires squares { HasSquares ring.now.active squares.now }
-    requires row { v < rows_of squares.now }
+    requires row { v < rows squares.now }
     requires few_rows { v < 2 ^ 28 }
     ensures { OnOk result (triangles.new.items ≡ triangles.old.items ++ square_row finer.now ring.now squares.now v) }
 {

@@ -2,12 +2,13 @@
 
 ghost use Rattle.std.specs.Prelude.{◌≡◌, ◌+◌, ◌<◌, ◌≤◌, ◌^◌, ◌++◌, length, OnOk, IfOk, ◌&&◌, pos, neg_ℤ, ◌+ℤ◌, ◌*ℤ◌, ◌≤ℤ◌, int_le};
 ghost use Rattle.std.specs.Int.{int_gap};
-ghost use Rattle.clip_regions.specs.Regions.{columns as columns_of, rows as rows_of};
+ghost use Rattle.clip_regions.specs.Regions.{columns, rows};
 ghost use Rattle.plan_model.specs.Limits.{IsSize};
 ghost use Rattle.mesh_model.specs.Height.{active_of};
 ghost use Rattle.mesh_model.specs.Vertices.{vertex_at, mesh_vertices};
 ghost use Rattle.active_region.specs.Active.{AreActive};
-ghost use Rattle.mesh_laws.specs.Rings.{run as run_of, ring_row};
+ghost use Rattle.mesh_laws.specs.Rings;
+ghost use Rattle.mesh_laws.specs.Rings.{ring_row};
 ghost use Rattle.mesh_laws.specs.Conditions.{IsCell, IsNear, IsSmall, IsRing};
 ghost use Rattle.ring_mesh.specs.Listed.{vertices_at, ring_cells, HasHeights, HasRun};
 
@@ -79,7 +80,8 @@ fn vertex_of_run<G: Heights>(
     requires run { HasRun (active_of actives.now level) run.now.i run.now.j run.now.count }
     requires few { run.now.count ≤ 255 }
     requires cell { u < run.now.count }
-    ensures { result ≡ vertex_at (G.terrain heights.now) k actives.now (record { level = level; i = run.now.i +ℤ pos u; j = run.now.j }) }
+    ensures { result ≡ vertex_at (G.terrain heights.now) k actives.now
+        (record { level = level; i = run.now.i +ℤ pos u; j = run.now.j }) }
 {
     vertex(heights, k, actives, level, run.i + u as i32, run.j)
 }
@@ -97,7 +99,8 @@ fn add_run<G: Heights>(
     requires heights { HasHeights k actives.now level (G.regions heights.now) }
     requires run { HasRun (active_of actives.now level) run.now.i run.now.j run.now.count }
     requires few { run.now.count ≤ 255 }
-    ensures { OnOk result (vertices.new.items ≡ vertices.old.items ++ vertices_at (G.terrain heights.now) k actives.now level (run_of run.now.i run.now.j run.now.count)) }
+    ensures { OnOk result (vertices.new.items ≡ vertices.old.items ++
+        vertices_at (G.terrain heights.now) k actives.now level (Rings.run run.now.i run.now.j run.now.count)) }
 {
     for u in 0..run.count {
         vertices.push(vertex_of_run(heights, k, actives, level, run, u))?;
@@ -115,11 +118,11 @@ fn has_row(region: &Region, j: i32) -> bool
 // All cells of row `v` of a region, counted from its first row.
 fn row_of(region: &Region, v: u32) -> Run
     requires small { IsSmall region.now }
-    requires row { v < rows_of region.now }
+    requires row { v < rows region.now }
     requires few { v < 255 }
     ensures i { result.i ≡ region.now.x0 }
     ensures j { result.j ≡ region.now.y0 +ℤ pos v }
-    ensures count { result.count ≡ columns_of region.now }
+    ensures count { result.count ≡ columns region.now }
 {
     Run {
         i: region.x0,
@@ -173,8 +176,10 @@ fn add_row<G: Heights>(
     requires heights { HasHeights k actives.now level (G.regions heights.now) }
     requires ring { IsRing ring.now }
     requires region { ring.now.active ≡ active_of actives.now level }
-    requires row { v < rows_of ring.now.active }
-    ensures { OnOk result (vertices.new.items ≡ vertices.old.items ++ vertices_at (G.terrain heights.now) k actives.now level (ring_row ring.now.hole ring.now.active (ring.now.active.y0 +ℤ pos v))) }
+    requires row { v < rows ring.now.active }
+    ensures { OnOk result (vertices.new.items ≡ vertices.old.items ++
+        vertices_at (G.terrain heights.now) k actives.now level (ring_row ring.now.hole ring.now.active
+        (ring.now.active.y0 +ℤ pos v))) }
 {
     rings_have_rows();
     let row = row_of(&ring.active, v);
@@ -199,7 +204,8 @@ fn add_ring<G: Heights>(
     requires heights { HasHeights k actives.now level (G.regions heights.now) }
     requires ring { IsRing ring.now }
     requires region { ring.now.active ≡ active_of actives.now level }
-    ensures { OnOk result (vertices.new.items ≡ vertices.old.items ++ vertices_at (G.terrain heights.now) k actives.now level (ring_cells ring.now)) }
+    ensures { OnOk result (vertices.new.items ≡ vertices.old.items ++
+        vertices_at (G.terrain heights.now) k actives.now level (ring_cells ring.now)) }
 {
     for v in 0..rows(&ring.active) {
         add_row(vertices, heights, k, actives, level, ring, v)?;

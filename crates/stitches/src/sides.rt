@@ -3,7 +3,7 @@
 ghost use Rattle.std.specs.Prelude.{◌≡◌, ◌+◌, ◌*◌, ◌^◌, ◌<◌, ◌≤◌, ◌++◌, false, OnOk, pos, neg_ℤ, ◌+ℤ◌, ◌-ℤ◌, ◌≤ℤ◌};
 ghost use Rattle.clip_regions.specs.Regions.{is_empty, IsWithin};
 ghost use Rattle.mesh_model.specs.Parts.{stitches_along};
-ghost use Rattle.stitches.specs.Sides.{IsBorder, kind_of as kind_along, steps_along, place_after as place_of_step, stitch_after, walk_along};
+ghost use Rattle.stitches.specs.Sides.{IsBorder, steps_along, stitch_after, walk_along, kind_of, place_after};
 
 use clip_regions::Region;
 use mesh_laws::Ring;
@@ -26,7 +26,7 @@ pub(crate) enum Side {
 
 // The kind of the part that the stitches along a side make.
 pub(crate) fn kind_of(side: Side) -> PartKind
-    ensures { result ≡ kind_along side }
+    ensures { result ≡ kind_of side }
 {
     match side {
         Side::North => PartKind::StitchNorth,
@@ -62,7 +62,7 @@ fn stitches_of(ring: &Ring, side: Side) -> u32
 fn place_after(ring: &Ring, side: Side, u: u32) -> u32
     requires border { IsBorder ring.now }
     requires walked { u ≤ steps_along ring.now.active side }
-    ensures { result ≡ place_of_step ring.now side u }
+    ensures { result ≡ place_after ring.now side u }
 {
     let active = &ring.active;
     match side {

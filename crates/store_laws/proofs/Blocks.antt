@@ -1,11 +1,10 @@
 -- A block's bytes stand for one list of heights, or have one fault.
-use Rattle.std.proofs.Common.{◌≡◌, ◌⊎◌, inl, inr, Bool, true, false, ℕ, ◌-◌, ◌*◌, ◌/◌, ◌%◌, ◌<◌, ℤ, pos, negsuc, ◌+ℤ◌, ◌<ℤ◌, FitsSigned, List, [], ◌∷◌, map, filter, length, refl, ap, ap₂, sym, ◌∙◌, subst, ⊎_elim, arith, length-append}
+use Rattle.std.proofs.Common.{◌≡◌, ◌⊎◌, inl, inr, Bool, true, false, ℕ, ◌-◌, ◌*◌, ◌/◌, ◌%◌, ◌<◌, ℤ, pos, negsuc, ◌<ℤ◌, FitsSigned, List, [], ◌∷◌, map, filter, length, refl, ap, ap₂, sym, ◌∙◌, subst, ⊎_elim, arith, length-append}
 use Rattle.std.specs.Int.{w16}
 use Rattle.std.specs.List.{flat_map}
 use Rattle.std.proofs.lemmas.Int.{ints}
 use Rattle.std.proofs.lemmas.Bool.{cases_Bool, cases_order}
 use Rattle.std.proofs.lemmas.List.{length-map}
-use Rattle.std.proofs.lemmas.List.FromFn.{length-map-range_with_len}
 use Rattle.clip_regions.specs.declared.region.Region.{Region}
 use Rattle.clip_regions.specs.Regions.{contains, columns, rows, area, numbers_from}
 use Rattle.four_point.specs.Steps.{value_of, brought, IsNear}
@@ -16,7 +15,9 @@ use Rattle.rice_residuals.specs.declared.fault.BlockFault.TheVariants as word
 use Rattle.store_model.specs.Blocks.{is_coded, coded_values, code_count, signed_bytes, plain_bytes, IsCoding, IsWordBlock}
 use Rattle.store_model.specs.Faults.{HasPlainFault, HasBlockFault, ComesBefore, HasValueOut}
 use Rattle.store_laws.proofs.Members.{in_filter, flat_same, flat_length_same, map_same}
-use Rattle.store_laws.proofs.Cells.{lies, column_member, row_member}
+use Rattle.store_laws.proofs.Cells.{column_member, row_member}
+use Rattle.clip_regions.proofs.Cells.{lies}
+use Rattle.store_model.proofs.Stores.{numbers_length}
 
 -- no words of one count are words of two lists, and a word has no fault
 abbrev pub OneList : Type 0
@@ -169,9 +170,6 @@ flat_even f m (x ∷ xs) h =
     let first = h x in
     let rest : length (flat_map f xs) ≡ length xs * m = flat_even f m xs h in
     omega (arith, length-append (f x) (flat_map f xs))
-
-numbers_length : (a : ℤ) (n : ℕ) → length (numbers_from a n) ≡ n
-numbers_length a n = length-map-range_with_len (λ i. a +ℤ pos i) 0 n
 
 turned : (c r : ℕ) → r * (c * 2) ≡ 2 * (c * r)
 turned c r = grind arith

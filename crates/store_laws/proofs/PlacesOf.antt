@@ -1,12 +1,10 @@
 -- Places in the bytes of a store: what stands before one is told by the bytes, and before a later one a whole block stands.
-use Rattle.std.proofs.Common.{◌≡◌, ◌⊎◌, inl, inr, Bool, true, false, eqb, ℕ, zero, suc, ◌+◌, ◌-◌, ◌^◌, ◌<◌, ◌≤◌, ℤ, FitsSigned, List, [], ◌∷◌, ◌++◌, length, refl, ap, sym, ◌∙◌, subst, ⊎_elim, arith, append_assoc, append-nil}
+use Rattle.std.proofs.Common.{◌≡◌, ◌⊎◌, inl, inr, Bool, true, false, eqb, ℕ, zero, suc, ◌+◌, ◌-◌, ◌^◌, ◌<◌, ◌≤◌, ℤ, FitsSigned, List, [], ◌++◌, length, refl, ap, sym, ◌∙◌, subst, ⊎_elim, arith, append_assoc, append-nil}
 use Rattle.std.specs.Int.{w16}
 use Rattle.std.specs.List.{flat_map, range_with_len}
 use Rattle.std.proofs.lemmas.Bool.{cases_Bool, cases_eq, cases_lt}
 use Rattle.std.proofs.lemmas.Bool.Decides.{nat_tests}
-use Rattle.std.proofs.lemmas.List.{map-id, append_cancel_left}
-use Rattle.std.proofs.lemmas.List.Concat.{flat_map-append}
-use Rattle.std.proofs.lemmas.List.FromFn.{map-range_with_len_more}
+use Rattle.std.proofs.lemmas.List.{append_cancel_left}
 use Rattle.clip_regions.specs.Regions.{contains}
 use Rattle.store_model.specs.Sizes.{level_region, block_count}
 use Rattle.store_model.specs.Format.{Head, head_bytes, entry}
@@ -15,18 +13,9 @@ use Rattle.store_laws.specs.Places.{IsPlace}
 use Rattle.store_laws.proofs.Entries.{entries_apart}
 use Rattle.store_laws.proofs.Cells.{in_block}
 use Rattle.store_laws.proofs.Blocks.{OneList, word_heights_same, plain_heights_same}
+use Rattle.store_model.proofs.Stores.{flat_range_more}
 
 -- ---- blocks one behind another
-range_more : (n : ℕ) → range_with_len 0 (n + 1) ≡ range_with_len 0 n ++ n ∷ []
-range_more n =
-    sym (map-id (range_with_len 0 (n + 1)))
-    ∙ map-range_with_len_more (λ k. k) 0 n n (omega arith)
-    ∙ ap (λ (xs : List ℕ). xs ++ n ∷ []) (map-id (range_with_len 0 n))
-
-pub flat_range_more : (f : ℕ → List ℕ) (n : ℕ) → flat_map f (range_with_len 0 (n + 1)) ≡ flat_map f (range_with_len 0 n) ++ f n
-flat_range_more f n =
-    ap (flat_map f) (range_more n) ∙ flat_map-append f (range_with_len 0 n) (n ∷ []) ∙ ap (λ (ys : List ℕ). flat_map f (range_with_len 0 n) ++ ys) (append-nil (f n))
-
 -- k blocks of a level, the next one, and what is left of the level's bytes
 pub record Split (head : Head) (heights : Levels) (level k : ℕ) (bytes : List ℕ) : Type 0 where
   pub first : List ℕ

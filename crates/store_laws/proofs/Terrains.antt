@@ -1,21 +1,19 @@
 -- The terrain that bytes stand for is one, and that of the heights of their finest level.
-use Rattle.std.proofs.Common.{◌≡◌, Bool, true, false, ◌&&◌, cond, ltb, eqb, ℕ, zero, suc, ◌+◌, ◌-◌, ◌*◌, ◌/◌, ◌%◌, ◌^◌, ◌<◌, ◌≤◌, ℤ, pos, negsuc, ◌*ℤ◌, ◌≤ℤ◌, List, [], get_or, FitsSigned, refl, ap, sym, ◌∙◌, subst, ⊎_elim, arith}
+use Rattle.std.proofs.Common.{◌≡◌, Bool, true, false, ltb, eqb, ℕ, zero, suc, ◌+◌, ◌*◌, ◌/◌, ◌%◌, ◌<◌, ◌≤◌, ℤ, pos, ◌*ℤ◌, List, [], get_or, FitsSigned, refl, ap, sym, ◌∙◌, subst, ⊎_elim, arith}
 use Rattle.std.specs.Int.{w16}
 use Rattle.std.proofs.lemmas.Int.{ints}
-use Rattle.std.proofs.lemmas.Nat.{shr-shr, div_below, mod_below}
-use Rattle.std.proofs.lemmas.Bool.{cases_Bool, and_parts, and_from, false≢true}
+use Rattle.std.proofs.lemmas.Nat.{div_below, mod_below}
+use Rattle.std.proofs.lemmas.Bool.{cases_Bool, false≢true}
 use Rattle.std.proofs.lemmas.Bool.Decides.{nat_tests}
 use Rattle.std.proofs.lemmas.List.{ext_get_or}
-use lib.Signed.{le_z}
 use mathlib.Core.Path.{ap₂}
 use Rattle.clip_regions.specs.Regions.{contains}
-use Rattle.clip_regions.specs.FloorDivision.{floor_rem}
 use Rattle.terrain_model.specs.Terrain.{Terrain, IsTerrain, height_at, level_height}
 use Rattle.terrain_model.specs.Laws.{FinestLevel, CoarserLevel}
 use Rattle.four_point.specs.Steps.{value_of, brought}
 use Rattle.four_point.specs.Laws.{EvenPrediction, BroughtSame}
-use Rattle.store_model.specs.Sizes.{cells_on, level_region}
-use Rattle.store_model.specs.Blocks.{is_coded, IsWordBlock}
+use Rattle.store_model.specs.Sizes.{level_region}
+use Rattle.store_model.specs.Blocks.{IsWordBlock}
 use Rattle.store_model.specs.Format.{Head, IsSoundHead}
 use Rattle.store_model.specs.Store.{Levels, region_of, IsBlockOf, IsFront, IsStore}
 use Rattle.store_laws.proofs.Blocks.{OneList}
@@ -23,12 +21,10 @@ use Rattle.store_laws.proofs.Cells.{in_block}
 use Rattle.store_laws.proofs.PlacesOf.{front_apart, front_split}
 use Rattle.store_laws.proofs.Likeness.{front_like}
 use Rattle.store_laws.proofs.OneStore.{same_store_heads}
+use Rattle.store_model.proofs.RestoredLevels.{both, not_coded, region_doubled}
 
 -- ---- one terrain
-both : (a b : Bool) (x y : ℤ) → a ≡ true → b ≡ true → cond (a && b) x y ≡ x
-both a b x y e f = rw (e, f) refl
-
-table_at : (terrain : Terrain) (x y : ℕ) → x < terrain.width → y < terrain.height → height_at terrain (pos x) (pos y) ≡ get_or terrain.table (y * terrain.width + x) (pos 0)
+pub table_at : (terrain : Terrain) (x y : ℕ) → x < terrain.width → y < terrain.height → height_at terrain (pos x) (pos y) ≡ get_or terrain.table (y * terrain.width + x) (pos 0)
 unfolding height_at
 table_at terrain x y h v =
     both (ltb x terrain.width) (ltb y terrain.height) (get_or terrain.table (y * terrain.width + x) (pos 0)) (pos 0) (grind (arith, nat_tests)) (grind (arith, nat_tests))
@@ -71,42 +67,6 @@ one_terrain_is finest one head other terrain second bytes a b =
     (heads, terrain_same terrain second a.sound_terrain b.sound_terrain width height (λ x y. sym (finest terrain x y) ∙ ap (λ (f : ℤ → ℤ → ℤ). f x y) here ∙ finest second x y))
 
 -- ---- a coarser level takes the heights at even places
-tested_le : (a b : ℤ) → le_z a b ≡ true → a ≤ℤ b
-tested_le a b e = omega (arith, ints)
-
-le_tested : (a b : ℤ) → a ≤ℤ b → le_z a b ≡ true
-le_tested a b h = grind (arith, ints)
-
-doubled_negative : (n : ℕ) → pos 2 *ℤ negsuc n ≡ negsuc (2 * n + 1)
-doubled_negative n = omega (arith, ints)
-
-even_rem : (a : ℤ) → floor_rem (pos 2 *ℤ a) 2 ≡ 0
-unfolding floor_rem
-even_rem (pos n) = omega arith
-even_rem (negsuc n) = rw (doubled_negative n) (omega arith)
-
-not_coded : (a b : ℤ) → is_coded (pos 2 *ℤ a) (pos 2 *ℤ b) ≡ false
-unfolding is_coded
-not_coded a b = rw (even_rem a, even_rem b) refl
-
-side_doubled : (side level : ℕ) (z : ℤ) → (le_z (pos 0) z && le_z z (pos (cells_on side (level + 1) - 1))) ≡ true → (le_z (pos 0) (pos 2 *ℤ z) && le_z (pos 2 *ℤ z) (pos (cells_on side level - 1))) ≡ true
-unfolding cells_on
-side_doubled side level z e =
-    let half : (side - 1) / 2 ^ level / 2 ^ 1 ≡ (side - 1) / 2 ^ (level + 1) = shr-shr (side - 1) level 1 in
-    let parts = and_parts (le_z (pos 0) z) (le_z z (pos ((side - 1) / 2 ^ (level + 1) + 1 - 1))) e in
-    let l = tested_le (pos 0) z parts.0 in
-    let h = tested_le z (pos ((side - 1) / 2 ^ (level + 1) + 1 - 1)) parts.1 in
-    let q = (side - 1) / 2 ^ level in
-    let q_half : 2 * (q / 2) ≤ q = omega arith in
-    and_from (le_z (pos 0) (pos 2 *ℤ z)) (le_z (pos 2 *ℤ z) (pos (q + 1 - 1))) (le_tested (pos 0) (pos 2 *ℤ z) (omega (arith, ints))) (le_tested (pos 2 *ℤ z) (pos (q + 1 - 1)) (omega (arith, ints)))
-
-region_doubled : (width height level : ℕ) (a b : ℤ) → contains (level_region width height (level + 1)) a b ≡ true → contains (level_region width height level) (pos 2 *ℤ a) (pos 2 *ℤ b) ≡ true
-unfolding contains level_region
-region_doubled width height level a b e =
-    let parts = and_parts (le_z (pos 0) a && le_z a (pos (cells_on width (level + 1) - 1))) (le_z (pos 0) b && le_z b (pos (cells_on height (level + 1) - 1))) e in
-    and_from (le_z (pos 0) (pos 2 *ℤ a) && le_z (pos 2 *ℤ a) (pos (cells_on width level - 1))) (le_z (pos 0) (pos 2 *ℤ b) && le_z (pos 2 *ℤ b) (pos (cells_on height level - 1)))
-    (side_doubled width level a parts.0) (side_doubled height level b parts.1)
-
 even_value : EvenPrediction → (coarser : ℤ → ℤ → ℤ) (step : ℕ) (a b code : ℤ) → code ≡ pos 0 → value_of coarser step (pos 2 *ℤ a) (pos 2 *ℤ b) code ≡ coarser a b
 unfolding value_of
 even_value even coarser step a b code e =

@@ -1,5 +1,5 @@
 -- A canonical block stands for the restored heights.
-use Rattle.std.proofs.Common.{◌≡◌, Bool, true, false, ◌&&◌, cond, eqb, min, ℕ, zero, suc, ◌+◌, ◌-◌, ◌*◌, ◌^◌, ◌<◌, ◌≤◌, ℤ, pos, ◌*ℤ◌, ◌≤ℤ◌, unsigned_abs, List, [], ◌∷◌, map, filter, All, FitsSigned, refl, ap, sym, ◌∙◌, subst, ⊎_elim, arith}
+use Rattle.std.proofs.Common.{◌≡◌, Bool, true, false, ◌&&◌, cond, eqb, min, ℕ, zero, suc, ◌+◌, ◌-◌, ◌*◌, ◌^◌, ◌<◌, ◌≤◌, ℤ, pos, ◌*ℤ◌, unsigned_abs, List, [], ◌∷◌, map, filter, All, FitsSigned, refl, ap, sym, ◌∙◌, subst, ⊎_elim, arith}
 use Rattle.std.specs.Int.{w16}
 use Rattle.std.specs.List.{flat_map}
 use Rattle.std.proofs.lemmas.Int.{ints}
@@ -22,6 +22,7 @@ use Rattle.store_model.specs.Blocks.{is_coded, coded_values, plain_bytes, IsWord
 use Rattle.store_model.specs.Restored.{restored_cell, restored_after, restored_height, canonical_block}
 use Rattle.store_model.proofs.Outside.{level_fits}
 use Rattle.store_model.proofs.Restoring.{both_even, itself}
+use Rattle.clip_regions.proofs.Cells.{tested_le, le_tested}
 
 -- ---- values at coded cells
 filtered_same : (f g : ℤ → ℤ) (p : ℤ → Bool) (xs : List ℤ) → ((x : ℤ) → p x ≡ true → f x ≡ g x) → map f (filter p xs) ≡ map g (filter p xs)
@@ -80,12 +81,6 @@ after_fits fits terrain levels step (suc n) sound i j =
     (omega (arith, ints))
 
 -- ---- cells of a block lie in the level
-tested_le : (a b : ℤ) → le_z a b ≡ true → a ≤ℤ b
-tested_le a b e = omega (arith, ints)
-
-le_tested : (a b : ℤ) → a ≤ℤ b → le_z a b ≡ true
-le_tested a b h = grind (arith, ints)
-
 side_in : (low high cells : ℕ) (z : ℤ) → (le_z (pos low) z && le_z z (pos (min high (cells - 1)))) ≡ true → (le_z (pos 0) z && le_z z (pos (cells - 1))) ≡ true
 side_in low high cells z e =
     let parts = and_parts (le_z (pos low) z) (le_z z (pos (min high (cells - 1)))) e in

@@ -10,7 +10,7 @@ use Rattle.std.proofs.lemmas.List.FromFn.{get_or-map-range_with_len, length-map-
 use lib.Signed.{le_z}
 use mathlib.Core.Path.{ap₂}
 use Rattle.clip_regions.specs.Regions.{contains}
-use Rattle.clip_regions.specs.FloorDivision.{floor_div, floor_rem}
+use Rattle.clip_regions.specs.FloorDivision.{floor_div}
 use Rattle.terrain_model.specs.Terrain.{Terrain, IsTerrain, height_at, level_height}
 use Rattle.terrain_model.specs.Laws.{FinestLevel, CoarserLevel}
 use Rattle.four_point.specs.Steps.{code_of, value_of, brought}
@@ -20,6 +20,8 @@ use Rattle.store_model.specs.Blocks.{is_coded}
 use Rattle.store_model.specs.Restored.{restored_cell, restored_after, restored_height, restored_terrain}
 use Rattle.store_model.proofs.Outside.{level_outside}
 use Rattle.store_model.proofs.Canonical.{after_fits}
+use Rattle.clip_regions.proofs.Cells.{tested_le, le_tested}
+use Rattle.four_point.proofs.LawLemmas.{even_rem, even_div}
 
 pub restored_is_terrain : BroughtFits → (terrain : Terrain) (levels step : ℕ) → IsTerrain terrain → IsTerrain (restored_terrain terrain levels step)
 unfolding restored_terrain
@@ -45,12 +47,6 @@ restored_outside terrain levels step (suc n) sound i j e =
     ap (λ (t : Bool). cond t (restored_cell (restored_after terrain levels step n) step i j (level_height terrain (levels - suc (suc n)) i j)) (pos 0)) e
 
 -- ---- level 0
-tested_le : (a b : ℤ) → le_z a b ≡ true → a ≤ℤ b
-tested_le a b e = omega (arith, ints)
-
-le_tested : (a b : ℤ) → a ≤ℤ b → le_z a b ≡ true
-le_tested a b h = grind (arith, ints)
-
 cells_at_0 : (side : ℕ) → 1 ≤ side → cells_on side 0 ≡ side
 unfolding cells_on
 cells_at_0 side h = omega arith
@@ -69,7 +65,7 @@ inside_0 width height x y w h e =
     let d = tested_le y (pos (cells_on height 0 - 1)) down.1 in
     (a, omega (arith, ints), c, omega (arith, ints))
 
-both : (a b : Bool) (x y : ℤ) → a ≡ true → b ≡ true → cond (a && b) x y ≡ x
+pub both : (a b : Bool) (x y : ℤ) → a ≡ true → b ≡ true → cond (a && b) x y ≡ x
 both a b x y e f = rw (e, f) refl
 
 table_at : (terrain : Terrain) (levels step : ℕ) (x y : ℤ) → pos 0 ≤ℤ x → x <ℤ pos terrain.width → pos 0 ≤ℤ y → y <ℤ pos terrain.height → height_at (restored_terrain terrain levels step) x y ≡ restored_height terrain levels step 0 x y
@@ -109,17 +105,7 @@ restored_finest finest fits terrain levels step sound some x y =
 doubled_negative : (n : ℕ) → pos 2 *ℤ negsuc n ≡ negsuc (2 * n + 1)
 doubled_negative n = omega (arith, ints)
 
-even_rem : (a : ℤ) → floor_rem (pos 2 *ℤ a) 2 ≡ 0
-unfolding floor_rem
-even_rem (pos n) = omega arith
-even_rem (negsuc n) = rw (doubled_negative n) (omega arith)
-
-even_div : (a : ℤ) → floor_div (pos 2 *ℤ a) 2 ≡ a
-unfolding floor_div
-even_div (pos n) = ap pos (omega arith)
-even_div (negsuc n) = rw (doubled_negative n) (ap negsuc (omega arith))
-
-not_coded : (a b : ℤ) → is_coded (pos 2 *ℤ a) (pos 2 *ℤ b) ≡ false
+pub not_coded : (a b : ℤ) → is_coded (pos 2 *ℤ a) (pos 2 *ℤ b) ≡ false
 unfolding is_coded
 not_coded a b = rw (even_rem a, even_rem b) refl
 
@@ -134,7 +120,7 @@ side_doubled side level z e =
     let q_half : 2 * (q / 2) ≤ q = omega arith in
     and_from (le_z (pos 0) (pos 2 *ℤ z)) (le_z (pos 2 *ℤ z) (pos (q + 1 - 1))) (le_tested (pos 0) (pos 2 *ℤ z) (omega (arith, ints))) (le_tested (pos 2 *ℤ z) (pos (q + 1 - 1)) (omega (arith, ints)))
 
-region_doubled : (width height level : ℕ) (a b : ℤ) → contains (level_region width height (level + 1)) a b ≡ true → contains (level_region width height level) (pos 2 *ℤ a) (pos 2 *ℤ b) ≡ true
+pub region_doubled : (width height level : ℕ) (a b : ℤ) → contains (level_region width height (level + 1)) a b ≡ true → contains (level_region width height level) (pos 2 *ℤ a) (pos 2 *ℤ b) ≡ true
 unfolding contains level_region
 region_doubled width height level a b e =
     let parts = and_parts (le_z (pos 0) a && le_z a (pos (cells_on width (level + 1) - 1))) (le_z (pos 0) b && le_z b (pos (cells_on height (level + 1) - 1))) e in

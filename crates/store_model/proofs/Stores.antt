@@ -35,7 +35,7 @@ filter_length p (x ∷ xs) =
     let rest : length (filter p xs) ≤ length xs = filter_length p xs in
     elim (p x) as (λ t. length (cond t (x ∷ filter p xs) (filter p xs)) ≤ suc (length xs)) [ true ↦ omega arith | false ↦ omega arith ]
 
-numbers_length : (a : ℤ) (n : ℕ) → length (numbers_from a n) ≡ n
+pub numbers_length : (a : ℤ) (n : ℕ) → length (numbers_from a n) ≡ n
 numbers_length a n = length-map-range_with_len (λ i. a +ℤ pos i) 0 n
 
 gap_few : (low high cells : ℕ) → high ≤ low + 7 → int_gap (pos low) (pos (min high (cells - 1)) +ℤ pos 1) ≤ 8
@@ -127,13 +127,13 @@ block_is words same version terrain levels step level k sound s below =
     (cases_Bool (eqb (level + 1) levels))
 
 -- ---- levels
-range_more : (n : ℕ) → range_with_len 0 (n + 1) ≡ range_with_len 0 n ++ n ∷ []
+pub range_more : (n : ℕ) → range_with_len 0 (n + 1) ≡ range_with_len 0 n ++ n ∷ []
 range_more n =
     sym (map-id (range_with_len 0 (n + 1)))
     ∙ map-range_with_len_more (λ k. k) 0 n n (omega arith)
     ∙ ap (λ (xs : List ℕ). xs ++ n ∷ []) (map-id (range_with_len 0 n))
 
-flat_range_more : (f : ℕ → List ℕ) (n : ℕ) → flat_map f (range_with_len 0 (n + 1)) ≡ flat_map f (range_with_len 0 n) ++ f n
+pub flat_range_more : (f : ℕ → List ℕ) (n : ℕ) → flat_map f (range_with_len 0 (n + 1)) ≡ flat_map f (range_with_len 0 n) ++ f n
 flat_range_more f n =
     ap (flat_map f) (range_more n) ∙ flat_map-append f (range_with_len 0 n) (n ∷ []) ∙ ap (λ (ys : List ℕ). flat_map f (range_with_len 0 n) ++ ys) (append-nil (f n))
 

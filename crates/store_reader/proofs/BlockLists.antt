@@ -17,7 +17,8 @@ use Rattle.store_reader.specs.Places.{cell_heights}
 use Rattle.store_reader.specs.Decoding.{IsDecoded}
 use Rattle.store_reader.specs.Reading.{BlockRead, BlocksRead}
 use Rattle.store_reader.proofs.CellNumbers.{lies, lying, columns_is, rows_is}
-use Rattle.store_reader.proofs.PlainLemmas.{flat_range_more, flat_like}
+use Rattle.store_reader.proofs.PlainLemmas.{flat_like}
+use Rattle.store_model.proofs.Stores.{flat_range_more}
 
 -- ---- the cells of blocks
 -- a cell of a block has the block's column and row

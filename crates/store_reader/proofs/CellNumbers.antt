@@ -9,12 +9,7 @@ use mathlib.Core.Path.{ap₂}
 use Rattle.clip_regions.specs.declared.region.Region.{Region}
 use Rattle.clip_regions.specs.Regions.{contains, columns, rows, area}
 use Rattle.block_heights.specs.Pieces.{IsPieceUpTo, Lies, column_of, row_of}
-
-tested_le : (a b : ℤ) → le_z a b ≡ true → a ≤ℤ b
-tested_le a b e = omega (arith, ints)
-
-le_tested : (a b : ℤ) → a ≤ℤ b → le_z a b ≡ true
-le_tested a b h = grind (arith, ints)
+use Rattle.clip_regions.proofs.Cells.{tested_le, le_tested}
 
 pub lies : (r : Region) (i j : ℤ) → contains r i j ≡ true → Lies r i j
 unfolding contains

@@ -8,7 +8,7 @@ use Rattle.std.proofs.Math.Nat.{mul-le-mul_right, mul-le-mul, div-le_self}
 use mathlib.Core.Path.{ap₂}
 use Rattle.clip_regions.specs.declared.region.Region.{Region}
 use Rattle.clip_regions.specs.Regions.{contains, columns, rows, area}
-use Rattle.terrain_model.specs.Terrain.{Terrain, height_at}
+use Rattle.terrain_model.specs.Terrain.{height_at}
 use Rattle.block_heights.specs.Pieces.{IsPieceUpTo}
 use Rattle.store_model.specs.Sizes.{cells_on}
 use Rattle.store_model.specs.Format.{Head, entry}
@@ -26,6 +26,7 @@ use Rattle.store_reader.specs.Tables.{AreRowsIn, IsKeptOutside, IsSpanOf}
 use Rattle.store_reader.specs.Decoding.{IsDecoded, is_plain, IsFaultIn}
 use Rattle.store_reader.specs.Reading.{coarser_of, BlockRead}
 use Rattle.store_reader.proofs.CellNumbers.{columns_is, rows_is, lying}
+use Rattle.store_laws.proofs.Terrains.{table_at}
 
 -- ---- spans
 pub columns_fit : (r : Region) (span : Span) (wide : ℕ) → IsSpanOf r span → r.x0 ≤ℤ r.x1 → r.x1 <ℤ pos wide → span.x0 + span.width ≤ wide
@@ -62,14 +63,6 @@ cells_few width height level some some_rows few =
     omega arith
 
 -- ---- cells of a table
-both : (a b : Bool) (x y : ℤ) → a ≡ true → b ≡ true → cond (a && b) x y ≡ x
-both a b x y e f = rw (e, f) refl
-
-pub table_at : (terrain : Terrain) (x y : ℕ) → x < terrain.width → y < terrain.height → height_at terrain (pos x) (pos y) ≡ get_or terrain.table (y * terrain.width + x) (pos 0)
-unfolding height_at
-table_at terrain x y h v =
-    both (ltb x terrain.width) (ltb y terrain.height) (get_or terrain.table (y * terrain.width + x) (pos 0)) (pos 0) (grind (arith, nat_tests)) (grind (arith, nat_tests))
-
 chosen_like : (a b : Bool) (x y z : ℤ) → (a ≡ true → b ≡ true → x ≡ y) → cond (a && b) x z ≡ cond (a && b) y z
 chosen_like true true x y z h = h refl refl
 chosen_like true false x y z h = refl

@@ -1,11 +1,10 @@
 -- Levels that were read make up a store, and a level's fault is that of the store.
-use Rattle.std.proofs.Common.{◌≡◌, ◌⊎◌, inl, inr, Result, Ok, Err, IfOk, IfErr, Bool, true, false, ◌&&◌, cond, ltb, eqb, ℕ, suc, ◌+◌, ◌-◌, ◌*◌, ◌<◌, ◌≤◌, ℤ, pos, negsuc, FitsSigned, List, ◌++◌, length, take, drop, get_or, refl, ap, sym, ◌∙◌, subst, ⊎_elim, arith, append_assoc, length-drop, eq-eqb}
+use Rattle.std.proofs.Common.{◌≡◌, ◌⊎◌, inl, inr, Result, Ok, Err, IfOk, IfErr, Bool, true, false, cond, eqb, ℕ, suc, ◌+◌, ◌-◌, ◌<◌, ◌≤◌, ℤ, pos, FitsSigned, List, ◌++◌, length, take, drop, refl, ap, sym, ◌∙◌, subst, ⊎_elim, arith, append_assoc, length-drop, eq-eqb}
 use Rattle.std.specs.Int.{w16}
 use Rattle.std.specs.List.{flat_map, range_with_len}
 use Rattle.std.proofs.lemmas.Int.{ints}
-use Rattle.std.proofs.lemmas.Bool.{cases_lt}
 use Rattle.std.proofs.lemmas.Bool.Decides.{nat_tests}
-use Rattle.std.proofs.lemmas.List.{get_or_past, take-append-drop, length-take-le, append_cancel_right}
+use Rattle.std.proofs.lemmas.List.{take-append-drop, length-take-le, append_cancel_right}
 use mathlib.Core.Path.{ap₂}
 use Rattle.clip_regions.specs.Regions.{contains}
 use Rattle.terrain_model.specs.Terrain.{Terrain, IsTerrain, height_at, level_height}
@@ -28,22 +27,12 @@ use Rattle.store_reader.specs.Places.{cell_heights}
 use Rattle.store_reader.specs.Decoding.{IsDecoded, is_plain}
 use Rattle.store_reader.specs.Reading.{coarser_of, BlocksRead, HasLevelFault, LevelRead, FailsLevel, LevelsRead}
 use Rattle.store_reader.proofs.HeaderBytes.{take_all}
+use Rattle.store_model.proofs.Outside.{height_fits}
 
 -- ---- heights of a grid
 chosen_fits : (t : Bool) (x : ℤ) → FitsSigned w16 x → FitsSigned w16 (cond t x (pos 0))
 chosen_fits true x h = h
 chosen_fits false x h = omega (arith, ints)
-
-height_fits : (terrain : Terrain) (x y : ℤ) → IsTerrain terrain → FitsSigned w16 (height_at terrain x y)
-unfolding height_at
-height_fits terrain (pos x) (pos y) sound =
-    chosen_fits (ltb x terrain.width && ltb y terrain.height) (get_or terrain.table (y * terrain.width + x) (pos 0))
-    (⊎_elim
-    (λ (inside : y * terrain.width + x < length terrain.table). sound.short_heights (y * terrain.width + x) (pos 0) inside)
-    (λ (past : length terrain.table ≤ y * terrain.width + x). rw (get_or_past terrain.table (y * terrain.width + x) (pos 0) past) (omega (arith, ints)))
-    (cases_lt (y * terrain.width + x) (length terrain.table)))
-height_fits terrain (pos x) (negsuc y) sound = omega (arith, ints)
-height_fits terrain (negsuc x) y sound = omega (arith, ints)
 
 same_cells : (head : Head) (level : ℕ) (grid : Terrain) → grid.width ≡ cells_on head.width level → grid.height ≡ cells_on head.height level → (i j : ℤ) → height_at grid i j ≡ cell_heights head level grid.table i j
 same_cells head level grid w h i j =

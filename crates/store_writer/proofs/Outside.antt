@@ -1,51 +1,17 @@
 -- Which cells of a level lie in the terrain.
-use Rattle.std.proofs.Common.{◌≡◌, ◌⊎◌, Bool, true, false, ◌&&◌, ℕ, ◌-◌, ◌*◌, ◌/◌, ◌^◌, ◌<◌, ◌≤◌, ℤ, pos, negsuc, ◌≤ℤ◌, ◌<ℤ◌, refl, sym, ◌∙◌, subst, ⊎_elim, arith}
+use Rattle.std.proofs.Common.{◌≡◌, ◌⊎◌, Bool, true, false, ℕ, ◌-◌, ◌*◌, ◌/◌, ◌^◌, ◌<◌, ◌≤◌, ℤ, pos, negsuc, ◌≤ℤ◌, ◌<ℤ◌, refl, sym, ◌∙◌, subst, ⊎_elim, arith}
 use Rattle.std.specs.Int.{w32}
 use Rattle.std.proofs.lemmas.Int.{ints, to_z-of_z}
-use Rattle.std.proofs.lemmas.Bool.{and_parts, and_from}
 use Rattle.std.proofs.lemmas.Nat.{pow_pos}
 use Rattle.std.proofs.Math.Nat.{mul-le-mul}
 use mir.Val.{SFits, to_z, of_z}
-use lib.Signed.{le_z}
 use Rattle.clip_regions.specs.declared.region.Region.{Region}
 use Rattle.clip_regions.specs.Regions.{contains}
 use Rattle.terrain_model.specs.Terrain.{Terrain, IsTerrain, level_columns, level_rows}
 use Rattle.height_pyramid.specs.Reach.{IsInReach}
 use Rattle.store_model.specs.Sizes.{cells_on, level_region}
 use Rattle.store_writer.proofs.Blocks.{columns_are, rows_are, width_small, height_small}
-
--- the cell (i, j) lies in a region
-pub record Lies (r : Region) (i j : ℤ) : Type 0 where
-  pub west : r.x0 ≤ℤ i
-  pub east : i ≤ℤ r.x1
-  pub north : r.y0 ≤ℤ j
-  pub south : j ≤ℤ r.y1
-
-tested_le : (a b : ℤ) → le_z a b ≡ true → a ≤ℤ b
-tested_le a b e = omega (arith, ints)
-
-le_tested : (a b : ℤ) → a ≤ℤ b → le_z a b ≡ true
-le_tested a b h = grind (arith, ints)
-
-pub lies : (r : Region) (i j : ℤ) → contains r i j ≡ true → Lies r i j
-unfolding contains
-lies r i j e =
-    let parts = and_parts (le_z r.x0 i && le_z i r.x1) (le_z r.y0 j && le_z j r.y1) e in
-    let across = and_parts (le_z r.x0 i) (le_z i r.x1) parts.0 in
-    let down = and_parts (le_z r.y0 j) (le_z j r.y1) parts.1 in
-    record {
-      west = tested_le r.x0 i across.0;
-      east = tested_le i r.x1 across.1;
-      north = tested_le r.y0 j down.0;
-      south = tested_le j r.y1 down.1;
-    }
-
-pub lying : (r : Region) (i j : ℤ) → Lies r i j → contains r i j ≡ true
-unfolding contains
-lying r i j h =
-    and_from (le_z r.x0 i && le_z i r.x1) (le_z r.y0 j && le_z j r.y1)
-    (and_from (le_z r.x0 i) (le_z i r.x1) (le_tested r.x0 i h.west) (le_tested i r.x1 h.east))
-    (and_from (le_z r.y0 j) (le_z j r.y1) (le_tested r.y0 j h.north) (le_tested j r.y1 h.south))
+use Rattle.clip_regions.proofs.Cells.{lies, Lies}
 
 not_true : (b : Bool) → (b ≡ true → ⊥) → b ≡ false
 not_true true h = absurd (h refl)

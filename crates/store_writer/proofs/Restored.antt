@@ -16,8 +16,9 @@ use Rattle.store_writer.specs.declared.cells.Cells.{Cells}
 use Rattle.store_writer.specs.Entries.{code_over}
 use Rattle.store_writer.specs.Cells.{region_of}
 use Rattle.store_writer.specs.Tables.{restored_in, block_heights}
-use Rattle.store_writer.proofs.Outside.{lying, not_lying}
+use Rattle.store_writer.proofs.Outside.{not_lying}
 use Rattle.store_writer.proofs.Patches.{of_block, code_same}
+use Rattle.clip_regions.proofs.Cells.{lying}
 
 pub cells_lie : (cells : Cells) (i j : ℕ) → cells.x0 ≤ i → cells.y0 ≤ j → i < cells.x0 + cells.columns → j < cells.y0 + cells.rows → contains (region_of cells) (pos i) (pos j) ≡ true
 unfolding region_of

@@ -14,9 +14,10 @@ use Rattle.clip_regions.specs.Regions.{contains}
 use Rattle.store_model.specs.Sizes.{cells_on, blocks_on, level_region, block_count, block_column, block_row, cells_in_block, block_region}
 use Rattle.store_model.specs.Restored.{restored_cell}
 use Rattle.store_writer.specs.Tables.{restored_in, table_place, table_height, block_heights}
-use Rattle.store_writer.proofs.Outside.{lies, lying, not_lying}
+use Rattle.store_writer.proofs.Outside.{not_lying}
 use Rattle.store_writer.proofs.Restored.{restored_none}
 use Rattle.store_writer.proofs.Rows.{flat_range_more}
+use Rattle.clip_regions.proofs.Cells.{lies, lying}
 
 -- ---- parts of one length
 flat_from : (f : ℕ → List ℤ) (m s n k r : ℕ) (d : ℤ) → ((a : ℕ) → length (f a) ≡ m) → k < n → r < m → get_or (flat_map f (range_with_len s n)) (m * k + r) d ≡ get_or (f (s + k)) r d

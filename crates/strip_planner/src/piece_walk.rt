@@ -36,7 +36,8 @@ impl Model for Pieces {
 
     ghost Value = { List Piece };
 
-    ghost view = { λ s. row_from s.strip s.bx s.row_left s.by ++ rows_from s.strip s.first s.columns (s.by +ℤ pos 1) s.rows_left };
+    ghost view = { λ s. row_from s.strip s.bx s.row_left s.by ++
+        rows_from s.strip s.first s.columns (s.by +ℤ pos 1) s.rows_left };
 
     ghost invariant = { λ s. IsWalk s.strip s.first s.columns s.bx s.by s.row_left s.rows_left };
 }

@@ -3,9 +3,9 @@
 ghost use Rattle.std.specs.Prelude.{◌≡◌, ◌/◌, ◌^◌, ◌≤◌, IsTrue, false, pos, neg_ℤ, ◌*ℤ◌, ◌≤ℤ◌, int_lt};
 ghost use Rattle.clip_regions.specs.Regions.{contains};
 ghost use Rattle.plan_model.specs.Limits.{IsSize};
-ghost use Rattle.plan_model.specs.Window.{blend_width as width_of_blend};
-ghost use Rattle.mesh_model.specs.Height.{border_distance as distance_of, blend_share as share_of, blended_height};
-ghost use Rattle.transition.specs.Weights.{own_weight as weight_of_own, coarser_weight as weight_of_coarser, mean_by};
+ghost use Rattle.plan_model.specs.Window.{blend_width};
+ghost use Rattle.mesh_model.specs.Height.{blended_height, blend_share, border_distance};
+ghost use Rattle.transition.specs.Weights.{mean_by, coarser_weight, own_weight};
 
 use clip_regions::Region;
 use level_frame::blend_width;
@@ -13,7 +13,7 @@ use level_frame::blend_width;
 // How far cell (i, j) of a region lies inside its border.
 fn border_distance(active: Region, i: i32, j: i32) -> i64
     requires { IsTrue (contains active i j) }
-    ensures value { result ≡ distance_of active i j }
+    ensures value { result ≡ border_distance active i j }
     ensures inside { pos 0 ≤ℤ result }
 {
     let (column, row) = (i64::from(i), i64::from(j));
@@ -27,9 +27,9 @@ fn border_distance(active: Region, i: i32, j: i32) -> i64
 fn blend_share(k: u8, coarsest: bool, active: Region, i: i32, j: i32) -> i32
     requires k { IsSize k }
     requires inside { IsTrue (contains active i j) }
-    ensures value { result ≡ share_of k coarsest active i j }
+    ensures value { result ≡ blend_share k coarsest active i j }
     ensures some { pos 0 ≤ℤ result }
-    ensures within { result ≤ℤ pos (width_of_blend k) }
+    ensures within { result ≤ℤ pos (blend_width k) }
 {
     if coarsest {
         return 0;
@@ -41,7 +41,7 @@ fn blend_share(k: u8, coarsest: bool, active: Region, i: i32, j: i32) -> i32
 // How many thirty-seconds of a metre one cell of the blend width gives of a height: 32 over that width.
 fn own_scale(k: u8) -> i32
     requires { IsSize k }
-    ensures value { result ≡ pos (32 / width_of_blend k) }
+    ensures value { result ≡ pos (32 / blend_width k) }
     ensures few { result ≤ℤ pos 32 }
 {
     match k {
@@ -56,7 +56,7 @@ fn own_scale(k: u8) -> i32
 // The same for each of two coarser heights: 16 over the blend width.
 fn coarser_scale(k: u8) -> i32
     requires { IsSize k }
-    ensures value { result ≡ pos (16 / width_of_blend k) }
+    ensures value { result ≡ pos (16 / blend_width k) }
     ensures few { result ≤ℤ pos 32 }
 {
     match k {
@@ -72,8 +72,8 @@ fn coarser_scale(k: u8) -> i32
 fn own_weight(k: u8, share: i32) -> i32
     requires k { IsSize k }
     requires some { pos 0 ≤ℤ share }
-    requires within { share ≤ℤ pos (width_of_blend k) }
-    ensures value { result ≡ weight_of_own k share }
+    requires within { share ≤ℤ pos (blend_width k) }
+    ensures value { result ≡ own_weight k share }
     ensures positive { pos 0 ≤ℤ result }
     ensures few { result ≤ℤ pos 32 }
 {
@@ -84,8 +84,8 @@ fn own_weight(k: u8, share: i32) -> i32
 fn coarser_weight(k: u8, share: i32) -> i32
     requires k { IsSize k }
     requires some { pos 0 ≤ℤ share }
-    requires within { share ≤ℤ pos (width_of_blend k) }
-    ensures value { result ≡ weight_of_coarser k share }
+    requires within { share ≤ℤ pos (blend_width k) }
+    ensures value { result ≡ coarser_weight k share }
     ensures positive { pos 0 ≤ℤ result }
     ensures few { result ≤ℤ pos 32 }
 {
@@ -98,6 +98,8 @@ fn weighted(weight: i32, height: i32) -> i32
     requires few { weight ≤ℤ pos 32 }
     requires low { neg_ℤ (pos (2 ^ 16)) ≤ℤ height }
     requires high { height ≤ℤ pos (2 ^ 16) }
+
+    // It is the product, and small.
     ensures value { result ≡ weight *ℤ height }
     ensures low { neg_ℤ (pos (2 ^ 21)) ≤ℤ result }
     ensures high { result ≤ℤ pos (2 ^ 21) }
@@ -109,7 +111,7 @@ fn weighted(weight: i32, height: i32) -> i32
 fn mean(k: u8, share: i32, own: i16, a: i16, b: i16) -> i32
     requires k { IsSize k }
     requires some { pos 0 ≤ℤ share }
-    requires within { share ≤ℤ pos (width_of_blend k) }
+    requires within { share ≤ℤ pos (blend_width k) }
     ensures { result ≡ mean_by k share own a b }
 {
     let coarser = i32::from(a) + i32::from(b);
@@ -143,7 +145,7 @@ pub fn blended(
 pub fn is_blended(k: u8, active: Region, i: i32, j: i32) -> bool
     requires k { IsSize k }
     requires inside { IsTrue (contains active i j) }
-    ensures value { result ≡ int_lt (pos 0) (share_of k false active i j) }
+    ensures value { result ≡ int_lt (pos 0) (blend_share k false active i j) }
 {
     blend_share(k, false, active, i, j) > 0
 }
