@@ -5,4 +5,7 @@ pub mod Fetching
 pub mod Lists
 pub mod Mosaics
 pub mod Readings
+pub mod Sourced
+pub mod Standing
 pub mod Tiles
+pub mod Writing

@@ -1,20 +1,41 @@
 -- What the words of a command line do.
-use Rattle.std.specs.Prelude.{ℕ, List, Option, None, Some}
-use Rattle.outer_shelf.specs.Outside.{Files}
-use Rattle.clipmap_words.specs.Commands.{CommandView, Frame, command_of}
+use Rattle.std.specs.Prelude.{ℕ, List, [], Option, None, Some}
+use Rattle.outer_shelf.specs.Outside.{Files, ShelfTold}
+use Rattle.clipmap_words.specs.Commands.{CommandView, Frame, Info, Pack, PackBy, command_of}
 use Rattle.clipmap_prog.specs.Faults.{Words}
 use Rattle.clipmap_prog.specs.Frame.{frame_outcome}
+use Rattle.clipmap_prog.specs.Info.{info_outcome}
+use Rattle.clipmap_prog.specs.Pack.{pack_outcome, pack_by_outcome}
 use Rattle.clipmap_prog.specs.Outcome.{Outcome, refused}
+use Rattle.clipmap_prog.specs.Stores.{ByVerdict, Verdict}
 
--- what a command does with these files
-abbrev pub command_outcome : CommandView → Files → Outcome
-command_outcome (Frame frame) files = frame_outcome frame files
+-- what a command does with these files, by the verdict on the file of its store
+abbrev pub command_outcome : Verdict → CommandView → Files → Outcome
+command_outcome verdict (Frame frame) files = frame_outcome frame files
+command_outcome verdict (Info info) files = info_outcome verdict info files
+command_outcome verdict (Pack pack) files = pack_outcome pack files
+command_outcome verdict (PackBy pack) files = pack_by_outcome verdict pack files
 
 -- the same, or where the words are no command
-abbrev pub outcome_of : Option CommandView → Files → Outcome
-outcome_of None files = refused 1 0 Words
-outcome_of (Some command) files = command_outcome command files
+abbrev pub outcome_of : Verdict → Option CommandView → Files → Outcome
+outcome_of verdict None files = refused 1 0 Words
+outcome_of verdict (Some command) files = command_outcome verdict command files
 
--- what the words do with these files
-abbrev pub outcome : List (List ℕ) → Files → Outcome
-outcome words files = outcome_of (command_of words) files
+-- what the words do with these files, by the verdict on the file of the store that they name
+abbrev pub outcome : Verdict → List (List ℕ) → Files → Outcome
+outcome verdict words files = outcome_of verdict (command_of words) files
+
+-- the inputs of a command that may be a store
+abbrev pub store_inputs : CommandView → List (List ℕ)
+store_inputs (Frame frame) = []
+store_inputs (Info info) = info.inputs
+store_inputs (Pack pack) = []
+store_inputs (PackBy pack) = pack.inputs
+
+abbrev pub store_inputs_of : Option CommandView → List (List ℕ)
+store_inputs_of None = []
+store_inputs_of (Some command) = store_inputs command
+
+-- this holds of the outcome of the words, by the right verdict on the file of the store that they name, if they name one
+abbrev pub OfOutcome : List (List ℕ) → ShelfTold → ((Files → Outcome) → Type 0) → Type 0
+OfOutcome words shelf P = ByVerdict (store_inputs_of (command_of words)) shelf.files (λ verdict. P (outcome verdict words))

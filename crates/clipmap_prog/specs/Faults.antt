@@ -5,6 +5,8 @@ use Rattle.hgt_tiles.specs.declared.tiles.TileFault.{TileFault}
 use Rattle.hgt_tiles.specs.declared.tiles.TileFault.TheVariants as tile
 use Rattle.mosaic.specs.declared.fault.MosaicFault.{MosaicFault}
 use Rattle.mosaic.specs.declared.fault.MosaicFault.TheVariants as mosaic
+use Rattle.store_model.specs.declared.fault.StoreFault.{StoreFault}
+use Rattle.terrain_lines.specs.Faults.{store_fault_line}
 use Rattle.clipmap_prog.specs.declared.fault.FileFault.{FileFault}
 use Rattle.clipmap_prog.specs.declared.fault.FileFault.TheVariants as file
 use Rattle.clipmap_prog.specs.declared.fault.Fault.{Fault}
@@ -19,6 +21,7 @@ pub data Cause : Type 0 where
   File : List ℕ → FileFault → Cause
   Tile : List ℕ → TileFault → Cause
   Mosaic : MosaicFault → Cause
+  Store : StoreFault → Cause
 
 -- the line of a file of that name that can't be had
 abbrev pub file_line : List ℕ → FileFault → List ℕ
@@ -49,6 +52,7 @@ cause_line (BadName word) = codes "fault: BadName " ++ (word ++ codes "\n")
 cause_line (File name fault) = file_line name fault
 cause_line (Tile name fault) = tile_line name fault
 cause_line (Mosaic fault) = mosaic_line fault
+cause_line (Store fault) = store_fault_line fault
 
 -- the cause that a fault of the program's stands for
 abbrev pub cause_of : Fault → Cause
@@ -58,3 +62,4 @@ cause_of (fault.BadName word) = BadName word.now
 cause_of (fault.File name which) = File name.now which
 cause_of (fault.Tile name which) = Tile name.now which
 cause_of (fault.Mosaic which) = Mosaic which
+cause_of (fault.Store which) = Store which

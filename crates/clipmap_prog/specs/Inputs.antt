@@ -11,12 +11,12 @@ use Rattle.hgt_tiles.specs.TileView.{TileView, placed, tile_of_bytes}
 use Rattle.hgt_tiles.specs.declared.tiles.TileFault.TheVariants.{BadLength}
 use Rattle.mosaic.specs.Faults.{mosaic_fault}
 use Rattle.mosaic.specs.declared.fault.MosaicFault.{MosaicFault}
-use Rattle.clipmap_words.specs.Names.{is_store}
 use Rattle.clipmap_prog.specs.Faults.{Cause, NotYet, BadName, File, Tile, Mosaic}
 use Rattle.clipmap_prog.specs.declared.inputs.Inputs.{Inputs}
 use Rattle.clipmap_prog.specs.declared.tile_files.Named.{Named}
 use Rattle.clipmap_prog.specs.declared.fault.FileFault.TheVariants.{Absent, TooLong}
 use Rattle.clipmap_prog.specs.Reading.{Reading, unfetched, fetched, and_then, each_of}
+use Rattle.clipmap_prog.specs.Stores.{store_name}
 
 -- the most bytes that an HGT file may have
 abbrev pub hgt_limit : ℕ
@@ -92,12 +92,7 @@ named_reading files named = and_then (each_of (tile_reading files) named) (λ ti
 abbrev pub tiles_reading : List (List ℕ) → Files → Reading InputsView
 tiles_reading names files = and_then (each_of name_reading names) (named_reading files)
 
--- the name of the store, where the one input is a store
-abbrev pub store_name : List (List ℕ) → Option (List ℕ)
-store_name (name ∷ []) = if is_store name then Some name else None
-store_name _ = None
-
--- the inputs: tiles, since stores aren't built yet
+-- the inputs of a command that draws: tiles, since drawing over a store isn't built yet
 abbrev pub inputs_by : List (List ℕ) → Files → Option (List ℕ) → Reading InputsView
 inputs_by names files (Some store) = unfetched (Err NotYet)
 inputs_by names files None = tiles_reading names files

@@ -3,10 +3,14 @@ pub mod Commands
 pub mod Courses
 pub mod Faults
 pub mod Frame
+pub mod Info
 pub mod Inputs
 pub mod Outcome
+pub mod Pack
 pub mod Program
 pub mod Promise
 pub mod Reading
 pub mod Runs
+pub mod Sources
+pub mod Stores
 pub mod WholeFrame

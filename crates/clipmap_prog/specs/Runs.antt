@@ -11,6 +11,10 @@ use Rattle.clipmap_prog.specs.declared.halt.Halt.TheVariants as halt
 abbrev pub Leaving : Type 1
 Leaving = List ℕ → List ℕ → Option Files → Option Files → Type 0
 
+-- a shelf that isn't called leaves nothing of a put
+abbrev pub leaves_nothing : Leaving
+leaves_nothing name bytes before now = ⊥
+
 -- what a refused put leaves: that name may hold anything that the shelf says, and all else is as before
 pub record RefusedPut (leaves : Leaving) (name bytes : List ℕ) (before now : Content) : Type 0 where
   pub left : leaves name bytes before.files now.files

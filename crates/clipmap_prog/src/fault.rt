@@ -6,6 +6,8 @@ ghost use Rattle.clipmap_prog.specs.Faults.{cause_line, cause_of, file_line, mos
 use hgt_tiles::{Corner, TileFault};
 use mosaic::MosaicFault;
 use std::alloc::{AllocError, Global};
+use store_model::StoreFault;
+use terrain_lines::store_fault_line;
 
 /// Why a file can't be had.
 #[derive(Clone, Copy)]
@@ -36,6 +38,8 @@ pub(crate) enum Fault<'a> {
     Tile(&'a str, TileFault),
     /// The tiles make no terrain together.
     Mosaic(MosaicFault),
+    /// The file is no store.
+    Store(StoreFault),
 }
 
 /// The line of a file of that name that can't be had.
@@ -89,5 +93,6 @@ pub(crate) fn fault_line(alloc: Global, fault: Fault<'_>) -> Result<String, Allo
         Fault::File(name, fault) => file_line(alloc, name, fault),
         Fault::Tile(name, fault) => tile_line(alloc, name, fault),
         Fault::Mosaic(fault) => mosaic_line(alloc, fault),
+        Fault::Store(fault) => store_fault_line(alloc, fault),
     }
 }

@@ -1,9 +1,10 @@
 //! The inputs of a command.
 ghost use Rattle.std.specs.Prelude.{◌≡◌, ◌≤◌, IfSome, length, map as list_map, option_map, string_bytes};
 ghost use Rattle.outer_shelf.specs.Counts.{Rose};
-ghost use Rattle.clipmap_prog.specs.Inputs.{inputs_reading, inputs_view, store_name};
+ghost use Rattle.clipmap_prog.specs.Inputs.{inputs_reading, inputs_view};
 ghost use Rattle.clipmap_prog.specs.Reading.{Finds, OnStop};
 ghost use Rattle.clipmap_prog.specs.Runs.{CallsWithin};
+ghost use Rattle.clipmap_prog.specs.Stores.{store_name};
 
 use crate::fault::Fault;
 use crate::reading::Stop;
@@ -27,7 +28,7 @@ pub(crate) struct Inputs {
 }
 
 /// The name of the store, where the one input is a store.
-fn store_name(inputs: &[String]) -> Option<&str>
+pub(crate) fn store_name(inputs: &[String]) -> Option<&str>
     ensures value { option_map (λ name. name.now) result ≡ store_name (list_map string_bytes inputs.now) }
 {
     match inputs {

@@ -6,13 +6,20 @@ mod draw;
 mod fault;
 mod frame;
 mod halt;
+mod info;
 mod inputs;
 #[cfg(test)]
 mod level_tests;
 mod output;
+mod pack;
 mod program;
 mod reading;
 mod run;
+mod sources;
+mod store_file;
+#[cfg(test)]
+mod store_tests;
+mod stored;
 #[cfg(test)]
 mod tests;
 mod tile_files;
@@ -22,5 +29,6 @@ mod top;
 
 pub use halt::Halt;
 pub use program::{Ended, run_main, run_program};
+pub use store_file::STORE_LIMIT;
 pub use tile_files::HGT_LIMIT;
 pub use top::clipmap;

@@ -1,7 +1,7 @@
 //! The program: the words of its command line, read or not, to its exit status.
 ghost use Rattle.std.specs.Prelude.{◌≡◌};
 ghost use Rattle.std.specs.Process.{exit_status};
-ghost use Rattle.clipmap_prog.specs.Commands.{outcome};
+ghost use Rattle.clipmap_prog.specs.Commands.{OfOutcome};
 ghost use Rattle.clipmap_prog.specs.Program.{words_told};
 ghost use Rattle.clipmap_prog.specs.Promise.{HasCauses, IsComplete, ShelfCallsWithin, SinkCallsWithin, Stands};
 
@@ -47,15 +47,18 @@ pub fn run_program<R: Threads + Sync, S: Shelf, K: Sink>(
     shelf: &mut S,
     out: &mut K,
 ) -> Ended
-    ensures stands_where_told { Stands S.leaves (outcome (words_told words)) result
-        (S.told shelf.old) (S.told shelf.new) (K.told out.old) (K.told out.new) }
+    ensures stands_where_told { OfOutcome (words_told words) (S.told shelf.old)
+        (λ outcome. Stands S.leaves outcome result
+        (S.told shelf.old) (S.told shelf.new) (K.told out.old) (K.told out.new)) }
     ensures causes { HasCauses (words_told words) result
         (S.told shelf.old) (S.told shelf.new) (K.told out.old) (K.told out.new) }
-    ensures complete_where_told { IsComplete (outcome (words_told words)) result
-        (S.told shelf.old) (S.told shelf.new) (K.told out.old) (K.told out.new) }
-    ensures shelf_calls_where_told { ShelfCallsWithin (outcome (words_told words)) (S.told shelf.old) (S.told shelf.new) }
-    ensures sink_calls_where_told { SinkCallsWithin (outcome (words_told words))
-        (S.told shelf.old) (K.told out.old) (K.told out.new) }
+    ensures complete_where_told { OfOutcome (words_told words) (S.told shelf.old)
+        (λ outcome. IsComplete outcome result
+        (S.told shelf.old) (S.told shelf.new) (K.told out.old) (K.told out.new)) }
+    ensures shelf_calls_where_told { OfOutcome (words_told words) (S.told shelf.old)
+        (λ outcome. ShelfCallsWithin outcome (S.told shelf.old) (S.told shelf.new)) }
+    ensures sink_calls_where_told { OfOutcome (words_told words) (S.told shelf.old)
+        (λ outcome. SinkCallsWithin outcome (S.told shelf.old) (K.told out.old) (K.told out.new)) }
 {
     let status = match words {
         Ok(words) => clipmap(rt, alloc, words.as_slice(), shelf, out),

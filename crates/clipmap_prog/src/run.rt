@@ -1,12 +1,15 @@
 //! The run of a command: one function a command does it.
 ghost use Rattle.std.specs.Prelude.{◌≡◌, ◌⊎◌, IfOk};
 ghost use Rattle.clipmap_words.specs.Commands.{IsInRange, view_of};
-ghost use Rattle.clipmap_prog.specs.Commands.{command_outcome};
+ghost use Rattle.clipmap_prog.specs.Commands.{command_outcome, store_inputs};
 ghost use Rattle.clipmap_prog.specs.Promise.{Runs};
 ghost use Rattle.clipmap_prog.specs.Runs.{HadReason};
+ghost use Rattle.clipmap_prog.specs.Stores.{ByVerdict};
 
 use crate::frame::run_frame;
 use crate::halt::Halt;
+use crate::info::run_info;
+use crate::pack::{run_pack, run_pack_by};
 use clipmap_words::Command;
 use outer_shelf::{Shelf, Sink};
 use std::alloc::Global;
@@ -20,12 +23,16 @@ pub(crate) fn run<S: Shelf, K: Sink>(
     out: &mut K,
 ) -> Result<u8, Halt>
     requires in_range { IsInRange (view_of command.now) }
-    ensures runs { Runs S.leaves (command_outcome (view_of command.now)) result
-        (S.told shelf.old) (S.told shelf.new) (K.told out.old) (K.told out.new) }
+    ensures runs { ByVerdict (store_inputs (view_of command.now)) (S.told shelf.old).files
+        (λ verdict. Runs S.leaves (command_outcome verdict (view_of command.now)) result
+        (S.told shelf.old) (S.told shelf.new) (K.told out.old) (K.told out.new)) }
     ensures status { IfOk result (λ status. (status ≡ 0) ⊎ (status ≡ 2)) }
     ensures reason { HadReason result (S.told shelf.old) (S.told shelf.new) (K.told out.old) (K.told out.new) }
 {
     match command {
         Command::Frame(frame) => run_frame(alloc, frame, shelf, out),
+        Command::Info(info) => run_info(alloc, info, shelf, out),
+        Command::Pack(pack) => run_pack(alloc, pack, shelf, out),
+        Command::PackBy(pack) => run_pack_by(alloc, pack, shelf, out),
     }
 }

@@ -11,7 +11,7 @@ const NINE: [u8; 18] = [0, 1, 0, 2, 0, 3, 0, 4, 0, 5, 0, 6, 0, 7, 0, 8, 0, 9];
 
 const TILE: &str = "N00E000.hgt";
 
-fn owned(alloc: Global, words: &[&str]) -> Result<Vec<String>, AllocError> {
+pub(crate) fn owned(alloc: Global, words: &[&str]) -> Result<Vec<String>, AllocError> {
     let mut all = Vec::new(alloc);
     for word in words {
         all.push(String::from_str(alloc, word)?)?;
@@ -264,11 +264,9 @@ fn faulty_words(rt: HostRuntime) {
         (0, "Frame"),
         (0, "frames"),
         (0, "frame "),
-        (0, "pack"),
         (0, "play"),
         (0, "fly"),
         (0, "swarm"),
-        (0, "info"),
         (0, "check"),
         (0, "demo"),
         (1, ""),

@@ -1,7 +1,7 @@
 //! The top call.
 ghost use Rattle.std.specs.Prelude.{◌≡◌, ◌≤◌, None, map, string_bytes, IfOk, ⊤};
 ghost use Rattle.clipmap_words.specs.Commands.{command_of};
-ghost use Rattle.clipmap_prog.specs.Commands.{outcome};
+ghost use Rattle.clipmap_prog.specs.Commands.{OfOutcome};
 ghost use Rattle.clipmap_prog.specs.Promise.{HasCauses, IsComplete, Runs, ShelfCallsWithin, SinkCallsWithin, Stands, status_of};
 ghost use Rattle.clipmap_prog.specs.Runs.{HadReason, OnHalt};
 
@@ -36,22 +36,24 @@ pub fn clipmap<R: Threads + Sync, S: Shelf, K: Sink>(
 ) -> u8
     // What stands afterwards, where the shelf tells its files: the whole outcome, or a front of its actions and what
     // the refused one left.
-    ensures stands_where_told { Stands S.leaves (outcome (map string_bytes words.now)) result
-        (S.told shelf.old) (S.told shelf.new) (K.told out.old) (K.told out.new) }
+    ensures stands_where_told { OfOutcome (map string_bytes words.now) (S.told shelf.old)
+        (λ outcome. Stands S.leaves outcome result
+        (S.told shelf.old) (S.told shelf.new) (K.told out.old) (K.told out.new)) }
 
     // The causes of each status hold for every shelf and sink.
     ensures causes { HasCauses (map string_bytes words.now) result
         (S.told shelf.old) (S.told shelf.new) (K.told out.old) (K.told out.new) }
 
     // Where no count of faults rose, the command is done or memory was wanting.
-    ensures complete_where_told { IsComplete (outcome (map string_bytes words.now)) result
-        (S.told shelf.old) (S.told shelf.new) (K.told out.old) (K.told out.new) }
+    ensures complete_where_told { OfOutcome (map string_bytes words.now) (S.told shelf.old)
+        (λ outcome. IsComplete outcome result
+        (S.told shelf.old) (S.told shelf.new) (K.told out.old) (K.told out.new)) }
 
     // No call is made that the outcome doesn't have.
-    ensures shelf_calls_where_told { ShelfCallsWithin (outcome (map string_bytes words.now))
-        (S.told shelf.old) (S.told shelf.new) }
-    ensures sink_calls_where_told { SinkCallsWithin (outcome (map string_bytes words.now))
-        (S.told shelf.old) (K.told out.old) (K.told out.new) }
+    ensures shelf_calls_where_told { OfOutcome (map string_bytes words.now) (S.told shelf.old)
+        (λ outcome. ShelfCallsWithin outcome (S.told shelf.old) (S.told shelf.new)) }
+    ensures sink_calls_where_told { OfOutcome (map string_bytes words.now) (S.told shelf.old)
+        (λ outcome. SinkCallsWithin outcome (S.told shelf.old) (K.told out.old) (K.told out.new)) }
 {
     let _ = rt;
     status(run_words(alloc, words, shelf, out))
@@ -64,8 +66,9 @@ fn run_words<S: Shelf, K: Sink>(
     shelf: &mut S,
     out: &mut K,
 ) -> Result<u8, Halt>
-    ensures runs { Runs S.leaves (outcome (map string_bytes words.now)) result
-        (S.told shelf.old) (S.told shelf.new) (K.told out.old) (K.told out.new) }
+    ensures runs { OfOutcome (map string_bytes words.now) (S.told shelf.old)
+        (λ outcome. Runs S.leaves outcome result
+        (S.told shelf.old) (S.told shelf.new) (K.told out.old) (K.told out.new)) }
     ensures small { IfOk result (λ status. status ≤ 2) }
     ensures words { IfOk result (λ status. status ≡ 1 → command_of (map string_bytes words.now) ≡ None) }
     ensures no_command { command_of (map string_bytes words.now) ≡ None → IfOk result (λ status. status ≡ 1)

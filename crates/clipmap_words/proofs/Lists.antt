@@ -5,6 +5,8 @@ use Rattle.std.proofs.lemmas.List.{length-map}
 use Rattle.std.proofs.lemmas.List.Folds.{list_all-map}
 use Rattle.clipmap_words.specs.Names.{is_name, is_store, is_inputs}
 use Rattle.clipmap_words.specs.Frame.{frame_of}
+use Rattle.clipmap_words.specs.Pack.{pack_of}
+use Rattle.clipmap_words.specs.PackBy.{pack_by_of}
 
 pub list_any-map : {A B : Type 0} (p : B → Bool) (f : A → B) (xs : List A) → list_any p (map f xs) ≡ list_any (λ x. p (f x)) xs
 list_any-map p f [] = refl
@@ -19,6 +21,20 @@ frame_of_few (_ ∷ _ ∷ []) few = refl
 frame_of_few (_ ∷ _ ∷ _ ∷ []) few = refl
 frame_of_few (_ ∷ _ ∷ _ ∷ _ ∷ []) few = refl
 frame_of_few (_ ∷ _ ∷ _ ∷ _ ∷ _ ∷ rest) few = absurd (omega arith)
+
+-- fewer than two words are no pack, and fewer than three no pack by a step
+pub pack_of_few : (words : List (List ℕ)) → length words < 2 → pack_of words ≡ None
+unfolding pack_of
+pack_of_few [] few = refl
+pack_of_few (_ ∷ []) few = refl
+pack_of_few (_ ∷ _ ∷ rest) few = absurd (omega arith)
+
+pub pack_by_of_few : (words : List (List ℕ)) → length words < 3 → pack_by_of words ≡ None
+unfolding pack_by_of
+pack_by_of_few [] few = refl
+pack_by_of_few (_ ∷ []) few = refl
+pack_by_of_few (_ ∷ _ ∷ []) few = refl
+pack_by_of_few (_ ∷ _ ∷ _ ∷ rest) few = absurd (omega arith)
 
 -- the inputs' test in the words of the strings that hold them
 pub is_inputs-map : {A : Type 0} (f : A → List ℕ) (xs : List A) → is_inputs (map f xs) ≡ (nat_le 1 (length xs) && nat_le (length xs) 64 && list_all (λ x. is_name (f x)) xs && (nat_eq (length xs) 1 || not (list_any (λ x. is_store (f x)) xs)))

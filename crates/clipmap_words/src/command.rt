@@ -4,12 +4,21 @@ ghost use Rattle.std.specs.Option.{option_map};
 ghost use Rattle.clipmap_words.specs.Commands.{IsInRange, command_of, view_of};
 
 use crate::frame::{FrameWords, read_frame};
+use crate::info::{InfoWords, read_info};
+use crate::pack::{PackWords, read_pack};
+use crate::pack_by::{PackByWords, read_pack_by};
 
 /// A command, as its words give it.
 #[derive(Clone, Copy)]
 pub enum Command<'a> {
     /// One frame of whole windows: `frame K L X Y OUT INPUT+`.
     Frame(FrameWords<'a>),
+    /// What is known of tiles or of a store: `info INPUT+`.
+    Info(InfoWords<'a>),
+    /// Tiles to an exact store: `pack L OUT INPUT+`.
+    Pack(PackWords<'a>),
+    /// Tiles or a store to a store by a step: `packq L Q OUT INPUT+`.
+    PackBy(PackByWords<'a>),
 }
 
 /// The command that the words are: those after the program's name. `None` exactly where they are no command.
@@ -22,6 +31,15 @@ pub fn read_words<'a>(words: &'a [String]) -> Option<Command<'a>>
     };
     if name.as_str() == "frame" {
         return read_frame(words).map(Command::Frame);
+    }
+    if name.as_str() == "info" {
+        return read_info(words).map(Command::Info);
+    }
+    if name.as_str() == "pack" {
+        return read_pack(words).map(Command::Pack);
+    }
+    if name.as_str() == "packq" {
+        return read_pack_by(words).map(Command::PackBy);
     }
     None
 }

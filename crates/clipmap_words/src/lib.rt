@@ -6,12 +6,18 @@
 
 mod command;
 mod frame;
+mod info;
 mod names;
 mod numbers;
+mod pack;
+mod pack_by;
 #[cfg(test)]
 mod tests;
 
 pub use command::{Command, read_words};
 pub use frame::FrameWords;
+pub use info::InfoWords;
 pub use names::{INPUTS_LIMIT, NAME_LIMIT, is_store_name};
 pub use numbers::VIEWER_LIMIT;
+pub use pack::PackWords;
+pub use pack_by::PackByWords;

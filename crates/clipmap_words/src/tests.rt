@@ -1,5 +1,6 @@
 //! One command that is read, as its words give it.
 use crate::{Command, is_store_name, read_words};
+use std::alloc::Global;
 use std::test::Fail;
 
 #[test]
@@ -24,6 +25,65 @@ fn reads_frame(rt: HostRuntime) -> Result<(), Fail> {
     assert_eq!(rt; frame.out, "o.obj");
     assert_eq!(rt; frame.inputs.len(), 1);
     assert_eq!(rt; frame.inputs[0].as_str(), "a/N45E006.hgt");
+    Ok(())
+}
+
+/// The command that these words are, told in a few words of its own.
+fn told(alloc: Global, words: &[&str]) -> Result<String, Fail> {
+    let mut all = Vec::new(alloc);
+    for word in words {
+        all.push(String::from_str(alloc, word)?)?;
+    }
+    let text = match read_words(&all) {
+        Some(Command::Info(info)) => format!(in alloc; "info of {}", info.inputs.len()),
+        Some(Command::Pack(pack)) => {
+            format!(in alloc;
+                "pack {} {} of {}",
+                pack.levels,
+                pack.out,
+                pack.inputs.len()
+            )
+        }
+        Some(Command::PackBy(pack)) => {
+            format!(in alloc;
+                "packq {} {} {} of {}",
+                pack.levels,
+                pack.step,
+                pack.out,
+                pack.inputs.len()
+            )
+        }
+        Some(Command::Frame(_)) => format!(in alloc; "frame"),
+        None => format!(in alloc; "none"),
+    };
+    Ok(text?)
+}
+
+#[test]
+fn reads_info_and_pack(rt: HostRuntime) -> Result<(), Fail> {
+    let table: [(&[&str], &str); 18] = [
+        (&["info"], "none"),
+        (&["info", ""], "none"),
+        (&["info", "a.hgt", "b.gct"], "none"),
+        (&["info", "a.hgt", "b.hgt"], "info of 2"),
+        (&["pack", "12", "o.gct", "a.hgt"], "pack 12 o.gct of 1"),
+        (&["pack", "1", "o", "a.gct"], "pack 1 o of 1"),
+        (&["pack", "0", "o", "a.hgt"], "none"),
+        (&["pack", "13", "o", "a.hgt"], "none"),
+        (&["pack", "12", "", "a.hgt"], "none"),
+        (&["pack", "12", "o"], "none"),
+        (&["pack"], "none"),
+        (&["packq", "2", "255", "o", "a.gct"], "packq 2 255 o of 1"),
+        (&["packq", "2", "1", "o", "a", "b"], "packq 2 1 o of 2"),
+        (&["packq", "2", "2", "o", "a"], "none"),
+        (&["packq", "2", "257", "o", "a"], "none"),
+        (&["packq", "2", "03", "o", "a"], "none"),
+        (&["packq", "2", "o", "a"], "none"),
+        (&["packs", "2", "o", "a"], "none"),
+    ];
+    for (words, want) in table {
+        assert_eq!(rt; told(rt.alloc(), words)?.as_str(), want);
+    }
     Ok(())
 }
 

@@ -1,0 +1,475 @@
+//! Worked examples of stores, over a shelf and a sink in memory.
+use crate::clipmap;
+use crate::tests::{owned, shelf_of};
+use height_pyramid::Grid;
+use outer_shelf::{MemorySink, NoMemory};
+use std::alloc::Global;
+use std::thread::Threads;
+use store_reader::read_heights;
+use store_writer::canonical_bytes;
+
+const TILE: &str = "N00E000.hgt";
+
+/// What a run over some files left: its status, what it wrote, and the file `o`.
+#[derive(Drop)]
+struct Left {
+    status: u8,
+    output: Vec<u8>,
+    file: Option<Vec<u8>>,
+}
+
+/// Runs the words over these files.
+fn run<R: Threads + Sync + AllocGlobal>(
+    rt: &R,
+    words: &[&str],
+    files: &[(&str, &[u8])],
+) -> Result<Left, NoMemory> {
+    run_failing(rt, words, files, &[], &[])
+}
+
+/// The same, where calls of these numbers fail.
+fn run_failing<R: Threads + Sync + AllocGlobal>(
+    rt: &R,
+    words: &[&str],
+    files: &[(&str, &[u8])],
+    shelf_failing: &[u64],
+    sink_failing: &[u64],
+) -> Result<Left, NoMemory> {
+    let alloc = rt.alloc();
+    let words = owned(alloc, words)?;
+    let mut shelf = shelf_of(alloc, files, shelf_failing)?;
+    let mut sink = MemorySink::new(alloc, Vec::from_slice(alloc, sink_failing)?);
+    let status = clipmap(rt, alloc, words.as_slice(), &mut shelf, &mut sink);
+    let file = match shelf.file("o") {
+        Some(bytes) => Some(Vec::from_slice(alloc, bytes)?),
+        None => None,
+    };
+    let output = Vec::from_slice(alloc, sink.bytes())?;
+    Ok(Left {
+        status,
+        output,
+        file,
+    })
+}
+
+/// The file of a run that was done.
+fn file_of(left: Left) -> Option<Vec<u8>> {
+    let Left { status, file, .. } = left;
+    if status == 0 { file } else { None }
+}
+
+/// Bytes in hexadecimal.
+fn hex(alloc: Global, bytes: &[u8]) -> Result<String, NoMemory> {
+    let mut text = String::new(alloc);
+    for byte in bytes {
+        if write!(text, "{byte:02x}").is_err() {
+            return Err(NoMemory);
+        }
+    }
+    Ok(text)
+}
+
+/// The tile of 3 × 3 samples that are 0, but for the middle one.
+fn peak(height: u16) -> [u8; 18] {
+    let mut bytes = [0u8; 18];
+    bytes[8] = (height / 256) as u8;
+    bytes[9] = (height % 256) as u8;
+    bytes
+}
+
+/// The exact store of the tile with 30000 in the middle.
+const FIRST: [u8; 33] = [
+    0x47, 0x43, 0x54, 0x31, 0, 0, 0, 3, 0, 0, 0, 3, 2, 0, 8, 0, 0, 0, 0, 0, 0, 0, 0, 0, 8, 0x03,
+    0xff, 0xff, 0xff, 0xfc, 0xea, 0x60, 0x00,
+];
+
+#[test]
+fn packs_a_tile(rt: HostRuntime) {
+    let alloc = rt.alloc();
+    // 32767 where x + y is even, and -32767 elsewhere.
+    let mut board = [0u8; 18];
+    for n in 0..9usize {
+        board[2 * n] = if n % 2 == 0 { 0x7f } else { 0x80 };
+        board[2 * n + 1] = if n % 2 == 0 { 0xff } else { 0x01 };
+    }
+    let (first, second, third) = (peak(30000), peak(1000), peak(32767));
+    let exact = ["pack", "2", "o", TILE].as_slice();
+    let by_three = ["packq", "2", "3", "o", TILE].as_slice();
+    let by_seven = ["packq", "2", "7", "o", TILE].as_slice();
+    let by_nine = ["packq", "2", "9", "o", TILE].as_slice();
+    let table = [
+        (
+            exact,
+            first.as_slice(),
+            "4743543100000003000000030200080000000000000000000803fffffffcea6000",
+            "packed 33 bytes 2 blocks\n",
+        ),
+        (
+            exact,
+            board.as_slice(),
+            "4743543100000003000000030200087fff7fff7fff7fff000dff1ffbf1ffb43fff1ffbf1ffb0",
+            "packed 38 bytes 2 blocks\n",
+        ),
+        (
+            by_three,
+            first.as_slice(),
+            "474354320000000300000003020300080000000000000000000803fffffffc4e2000",
+            "packed 34 bytes 2 blocks\n",
+        ),
+        (
+            by_seven,
+            second.as_slice(),
+            "47435432000000030000000302070008000000000000000000065000ff780000",
+            "packed 32 bytes 2 blocks\n",
+        ),
+        (
+            by_nine,
+            third.as_slice(),
+            "474354320000000300000003020900080000000000000000000803fffffffc1c7200",
+            "packed 34 bytes 2 blocks\n",
+        ),
+    ];
+    for (words, tile, bytes, output) in table {
+        let Ok(left) = run(&rt, words, &[(TILE, tile)]) else {
+            panic!(rt; "no memory");
+        };
+        let Left {
+            status,
+            output: written,
+            file,
+        } = left;
+        assert_eq!(rt; status, 0, "{bytes}");
+        assert!(rt; written.as_slice() == output.as_bytes(), "{bytes}");
+        let Some(file) = file else {
+            panic!(rt; "no file");
+        };
+        let Ok(found) = hex(alloc, file.as_slice()) else {
+            panic!(rt; "no memory");
+        };
+        assert_eq!(rt; found.as_str(), bytes);
+    }
+}
+
+/// A store of version 1 is carried over to version 2 by the step 1.
+#[test]
+fn carries_a_store_over(rt: HostRuntime) {
+    let words = ["packq", "2", "1", "o", "out.gct"];
+    let Ok(left) = run(&rt, &words, &[("out.gct", &FIRST)]) else {
+        panic!(rt; "no memory");
+    };
+    let Some(file) = file_of(left) else {
+        panic!(rt; "no file");
+    };
+    let Ok(found) = hex(rt.alloc(), file.as_slice()) else {
+        panic!(rt; "no memory");
+    };
+    let want = "474354320000000300000003020100080000000000000000000803fffffffcea6000";
+    assert_eq!(rt; found.as_str(), want);
+}
+
+/// A store with other bytes in these places.
+fn changed(first: usize, second: usize, bytes: [u8; 2]) -> [u8; 33] {
+    let mut store = FIRST;
+    if first < 33 && second < 33 {
+        store[first] = bytes[0];
+        store[second] = bytes[1];
+    }
+    store
+}
+
+#[test]
+fn tells_of_tiles_and_stores(rt: HostRuntime) {
+    let voids = [
+        128, 0, 128, 0, 128, 0, 128, 0, 0, 5, 128, 0, 0, 7, 128, 0, 0, 9u8,
+    ];
+    let by_nine = [
+        0x47, 0x43, 0x54, 0x32, 0, 0, 0, 3, 0, 0, 0, 3, 2, 9, 0, 8, 0, 0, 0, 0, 0, 0, 0, 0, 0, 8,
+        0x03, 0xff, 0xff, 0xff, 0xfc, 0x1c, 0x72, 0x00u8,
+    ];
+    let mut out = by_nine;
+    out[32] = 0x74;
+    let table = [
+        (
+            TILE,
+            voids.as_slice(),
+            0,
+            "terrain 3 3\nheights 0 9\ntiles 1 side 3 voids 6\n",
+        ),
+        (
+            "a/b.GcT",
+            FIRST.as_slice(),
+            0,
+            "terrain 3 3\nheights 0 30000\nstore version 1 levels 2 blocks 2 bytes 33\n",
+        ),
+        (
+            "o.gct",
+            by_nine.as_slice(),
+            0,
+            "terrain 3 3\nheights 0 32767\nstore version 2 step 9 levels 2 blocks 2 bytes 34\n",
+        ),
+        (
+            "o.gct",
+            out.as_slice(),
+            2,
+            "fault: store OutOfRange 0 1 1 32778\n",
+        ),
+        (TILE, &voids[..17], 2, "fault: BadLength N00E000.hgt 17\n"),
+    ];
+    for (name, bytes, status, output) in table {
+        let Ok(left) = run(&rt, &["info", name], &[(name, bytes)]) else {
+            panic!(rt; "no memory");
+        };
+        assert_eq!(rt; left.status, status, "{output}");
+        assert!(rt; left.output.as_slice() == output.as_bytes(), "{output}");
+    }
+}
+
+/// What `info` says of bytes as a store.
+fn told<R: Threads + Sync + AllocGlobal>(rt: &R, bytes: &[u8]) -> Result<Left, NoMemory> {
+    run(rt, &["info", "out.gct"], &[("out.gct", bytes)])
+}
+
+/// Every fault of a store, once, with its line.
+#[test]
+fn faulty_stores(rt: HostRuntime) {
+    let longer = {
+        let mut bytes = [0u8; 34];
+        for n in 0..33usize {
+            bytes[n] = FIRST[n];
+        }
+        bytes
+    };
+    let mut even = longer;
+    even[3] = 0x32;
+    even[13] = 2;
+    let magic = changed(0, 1, [0x47, 0x42]);
+    let width = changed(6, 7, [0, 0]);
+    let height = changed(8, 11, [4, 1]);
+    let samples = changed(4, 8, [2, 2]);
+    let levels = changed(12, 12, [13, 13]);
+    let padding = changed(31, 32, [0x60, 1]);
+    let short_block = changed(24, 24, [7, 7]);
+    let long_form = changed(30, 31, [0, 5]);
+    let mut range = changed(29, 30, [0xfd, 0x38]);
+    range[31] = 0x80;
+    let table = [
+        (magic.as_slice(), "BadMagic"),
+        (width.as_slice(), "BadHeader width"),
+        (height.as_slice(), "BadHeader height"),
+        (samples.as_slice(), "BadHeader samples"),
+        (levels.as_slice(), "BadHeader levels"),
+        (even.as_slice(), "BadHeader step"),
+        (&FIRST[..12], "CutShort 12"),
+        (padding.as_slice(), "BadBlock 0 0 0 BadPadding 63"),
+        (short_block.as_slice(), "BadBlock 0 0 0 CutShort 56"),
+        (long_form.as_slice(), "BadBlock 0 0 0 LongForm 6"),
+        (range.as_slice(), "OutOfRange 0 1 1 40000"),
+        (longer.as_slice(), "Excess 33"),
+    ];
+    for (bytes, words) in table {
+        let Ok(left) = told(&rt, bytes) else {
+            panic!(rt; "no memory");
+        };
+        let want = format!(in rt.alloc(); "fault: store {words}\n").expect(&rt, "memory");
+        assert_eq!(rt; left.status, 2, "{words}");
+        assert!(rt; left.output.as_slice() == want.as_bytes(), "{words}");
+    }
+}
+
+/// A front of a store is cut short where it ends, whatever its length.
+#[test]
+fn cut_stores(rt: HostRuntime) {
+    for length in 0..33usize {
+        let Ok(left) = told(&rt, &FIRST[..length]) else {
+            panic!(rt; "no memory");
+        };
+        let want = format!(in rt.alloc(); "fault: store CutShort {length}\n").expect(&rt, "memory");
+        assert_eq!(rt; left.status, 2, "{length}");
+        assert!(rt; left.output.as_slice() == want.as_bytes(), "{length}");
+    }
+}
+
+/// Each byte of the first store changed to each other byte: `info` answers 0 with three lines, or 2 with one.
+#[test]
+fn stores_with_one_byte_changed(rt: HostRuntime) {
+    let mut sound = 0u32;
+    for place in 0..33usize {
+        for change in 1..=255u8 {
+            let mut bytes = FIRST;
+            bytes[place] ^= change;
+            let Ok(left) = told(&rt, &bytes) else {
+                panic!(rt; "no memory");
+            };
+            let text = left.output.as_slice();
+            let lines = text.iter().filter(|byte| **byte == b'\n').count();
+            let fault = text.starts_with(b"fault: store ".as_slice());
+            match left.status {
+                0 => {
+                    assert!(rt; lines == 3 && !fault, "{place} {change}");
+                    sound = sound.saturating_add(1);
+                }
+                2 => assert!(rt; lines == 1 && fault, "{place} {change}"),
+                _ => panic!(rt; "another status"),
+            }
+        }
+    }
+    assert!(rt; sound > 0);
+}
+
+/// Which inputs each command takes, and what comes first.
+#[test]
+fn refused_stores(rt: HostRuntime) {
+    let tile = peak(1);
+    let files = [(TILE, tile.as_slice()), ("a.gct", [0u8; 3].as_slice())];
+    let table = [
+        (
+            ["pack", "2", "o", "a.gct"].as_slice(),
+            2,
+            "fault: BadName a.gct\n",
+        ),
+        (
+            ["pack", "2", "o", "b.GCT"].as_slice(),
+            2,
+            "fault: BadName b.GCT\n",
+        ),
+        (
+            ["pack", "2", "o", "a.gct", TILE].as_slice(),
+            1,
+            "fault: words\n",
+        ),
+        (
+            ["packq", "2", "3", "o", "a.gct"].as_slice(),
+            2,
+            "fault: store BadMagic\n",
+        ),
+        (
+            ["packq", "2", "3", "o", "b.gct"].as_slice(),
+            2,
+            "fault: Absent b.gct\n",
+        ),
+        (
+            ["packq", "2", "4", "o", "a.gct"].as_slice(),
+            1,
+            "fault: words\n",
+        ),
+        (["info", "b.gct"].as_slice(), 2, "fault: Absent b.gct\n"),
+        (["info", TILE, "b.gct"].as_slice(), 1, "fault: words\n"),
+        (
+            ["info", "N00E001.hgt"].as_slice(),
+            2,
+            "fault: Absent N00E001.hgt\n",
+        ),
+        (["info"].as_slice(), 1, "fault: words\n"),
+    ];
+    for (words, status, output) in table {
+        let Ok(left) = run(&rt, words, &files) else {
+            panic!(rt; "no memory");
+        };
+        assert_eq!(rt; left.status, status, "{output}");
+        assert!(rt; left.output.as_slice() == output.as_bytes(), "{output}");
+        assert!(rt; left.file.is_none(), "{output}");
+    }
+}
+
+/// Calls that fail: what was put or written before stands.
+#[test]
+fn failing_calls_of_stores(rt: HostRuntime) {
+    let tile = peak(1);
+    let files = [(TILE, tile.as_slice()), ("a.gct", FIRST.as_slice())];
+    let pack = ["pack", "2", "o", TILE].as_slice();
+    let by_step = ["packq", "2", "3", "o", "a.gct"].as_slice();
+    let info = ["info", "a.gct"].as_slice();
+    let none = [].as_slice();
+    let table = [
+        (pack, [0].as_slice(), none, 3, 0, false),
+        (pack, [1].as_slice(), none, 3, 0, false),
+        (pack, none, [0].as_slice(), 4, 0, true),
+        (by_step, [0].as_slice(), none, 3, 0, false),
+        (by_step, [1].as_slice(), none, 3, 0, false),
+        (by_step, none, [0].as_slice(), 4, 0, true),
+        (info, [0].as_slice(), none, 3, 0, false),
+        (info, none, [0].as_slice(), 4, 0, false),
+        (info, none, [1].as_slice(), 4, 1, false),
+        (info, none, [2].as_slice(), 4, 2, false),
+    ];
+    for (words, shelf_failing, sink_failing, status, written, stands) in table {
+        let Ok(left) = run_failing(&rt, words, &files, shelf_failing, sink_failing) else {
+            panic!(rt; "no memory");
+        };
+        let lines = left.output.iter().filter(|byte| **byte == b'\n').count();
+        assert_eq!(rt; left.status, status);
+        assert_eq!(rt; lines, written);
+        assert_eq!(rt; left.file.is_some(), stands);
+    }
+}
+
+/// 100 × 67 heights drawn at random, from the lowest to the highest of 16 bits.
+fn random_heights(alloc: Global) -> Option<Grid> {
+    let mut heights = Vec::new(alloc);
+    let mut state = 1u64;
+    for _ in 0..6700u32 {
+        state = state
+            .wrapping_mul(6_364_136_223_846_793_005)
+            .wrapping_add(1_442_695_040_888_963_407);
+        let drawn = i32::from((state >> 48) as u16) - 32768;
+        if heights.push(drawn as i16).is_err() {
+            return None;
+        }
+    }
+    if heights.len() == 6700 {
+        Some(Grid::new(100, 67, heights))
+    } else {
+        None
+    }
+}
+
+/// The greatest distance in metres of the heights in two exact stores of one level: their bytes are the header, and then
+/// lengths and heights of two bytes each, at the same places.
+fn farthest(first: &[u8], second: &[u8]) -> i32 {
+    let mut most = 0;
+    for (one, other) in first.chunks(2).zip(second.chunks(2)) {
+        let ([a, b], [c, d]) = (one, other) else {
+            continue;
+        };
+        let height = i32::from(i16::from_be_bytes([*a, *b]));
+        let distance = (height - i32::from(i16::from_be_bytes([*c, *d]))).abs();
+        if distance > most {
+            most = distance;
+        }
+    }
+    most
+}
+
+/// Random heights by any number of levels: the exact store is carried over by a step, and what is read of the file lies
+/// within half a step of the heights.
+#[test]
+fn packs_and_reads_back(rt: HostRuntime) {
+    let alloc = rt.alloc();
+    let Some(grid) = random_heights(alloc) else {
+        panic!(rt; "no memory");
+    };
+    let flat = canonical_bytes(alloc, &grid, 1).expect(&rt, "memory");
+    for (levels, word) in [(1u8, "1"), (3, "3"), (7, "7"), (12, "12")] {
+        if levels < 1 || levels > 12 {
+            panic!(rt; "no number of levels");
+        }
+        let exact = canonical_bytes(alloc, &grid, levels).expect(&rt, "memory");
+        for (step, half) in [("1", 0), ("3", 1), ("255", 127)] {
+            let words = ["packq", word, step, "o", "a.gct"];
+            let Ok(left) = run(&rt, &words, &[("a.gct", exact.as_slice())]) else {
+                panic!(rt; "no memory");
+            };
+            let Some(file) = file_of(left) else {
+                panic!(rt; "no file");
+            };
+            let Ok(read) = read_heights(alloc, file.as_slice()) else {
+                panic!(rt; "no store");
+            };
+            assert_eq!(rt; (read.grid.width(), read.grid.height()), (100, 67));
+            let back = canonical_bytes(alloc, &read.grid, 1).expect(&rt, "memory");
+            assert_eq!(rt; back.len(), flat.len());
+            let most = farthest(&flat.as_slice()[13..], &back.as_slice()[13..]);
+            assert!(rt; most <= half, "{word} {step} {most}");
+        }
+    }
+}

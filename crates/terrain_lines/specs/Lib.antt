@@ -1,0 +1,3 @@
+pub mod Extremes
+pub mod Faults
+pub mod Lines
