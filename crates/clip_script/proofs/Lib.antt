@@ -2,4 +2,6 @@ pub mod Cuts
 pub mod Halves
 pub mod Readings
 pub mod Stops
+pub mod ViewLines
+pub mod ViewSteps
 pub mod Written

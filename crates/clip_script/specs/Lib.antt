@@ -4,3 +4,4 @@ pub mod Reading
 pub mod Scripts
 pub mod Steps
 pub mod Texts
+pub mod Views

@@ -1,6 +1,7 @@
 -- The lines of a script, and the words of a line.
-use Rattle.std.specs.Prelude.{ℕ, Bool, true, ◌==◌, List, [], ◌∷◌, length, if◌then◌else◌}
+use Rattle.std.specs.Prelude.{◌≡◌, ℕ, Bool, true, ◌==◌, List, [], ◌∷◌, length, if◌then◌else◌}
 use Rattle.std.specs.List.{slice_split}
+use Rattle.clip_script.specs.declared.cut.Cut.{Cut}
 
 -- what stands between one byte and the next one of its kind
 abbrev pub parts_at : ℕ → List ℕ → List (List ℕ)
@@ -24,6 +25,10 @@ words line = parts_at 32 line
 abbrev pub words_after : List ℕ → List (List ℕ)
 words_after [] = []
 words_after (_ ∷ line) = words line
+
+-- a cut is the next word behind a word, and what stands behind it
+abbrev pub IsNextWord : List ℕ → Cut → Type 0
+IsNextWord rest cut = words_after rest ≡ cut.front.now ∷ words_after cut.rest.now
 
 -- a line that is skipped: it is empty or begins with `#`
 abbrev pub is_skipped : List ℕ → Bool

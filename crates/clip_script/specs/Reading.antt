@@ -3,6 +3,7 @@ use Rattle.std.specs.Prelude.{◌≡◌, ℕ, ◌+◌, Bool, not, ◌&&◌, List
 use Rattle.std.specs.List.{position_or_len, filter_map}
 use Rattle.clip_script.specs.Lines.{is_skipped, lines}
 use Rattle.clip_script.specs.declared.fault.ScriptFault.{ScriptFault}
+use Rattle.clip_script.specs.declared.lines.Left.{Left}
 use Rattle.clip_script.specs.declared.lines.Opening.{Opening}
 use Rattle.clip_script.specs.declared.fault.ScriptFault.TheVariants.{TooMany, BadLine, NoMemory}
 
@@ -41,7 +42,15 @@ unfoldable pub opened : {A : Type 0} → (List ℕ → Option A) → ℕ → Lis
 opened says before lines =
     let first = position_or_len is_spoken lines in
     let number = before + first + 1 in
-    if nat_lt first (length lines) then opening number (drop (first + 1) lines) (says (slice_index_or lines first [])) else Err number
+    if nat_lt first (length lines) then opening number (drop (first + 1) lines) (says (slice_index_or lines first []))
+    else Err number
+
+-- both of the lines that the code's readers have left
+abbrev pub said_in : {A : Type 0} → (List ℕ → Option A) → Left → Result (List A) ℕ
+said_in says left = all_said says left.before (lines left.text.now)
+
+abbrev pub opened_in : {A : Type 0} → (List ℕ → Option A) → Left → Result (Opened A) ℕ
+opened_in says left = opened says left.before (lines left.text.now)
 
 -- a reading that goes on with what was read
 abbrev pub go_on : {A B E : Type 0} → (A → Result B E) → Result A E → Result B E

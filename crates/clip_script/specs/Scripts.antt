@@ -106,7 +106,13 @@ flight_of = script_of (λ lines. go_on fly_after (opened size_of 0 lines))
 -- after `size` and `work`, each line of a swarm script that isn't skipped is a move
 abbrev pub with_moves : Pair → Opened Pair → List (ℤ × ℤ × ℕ) → Result Swarm ℕ
 with_moves size work moves =
-    Ok (record { k = size.first; levels = size.second; claims = work.said.first; begins = work.said.second; moves = moves })
+    Ok (record {
+      k = size.first;
+      levels = size.second;
+      claims = work.said.first;
+      begins = work.said.second;
+      moves = moves;
+    })
 
 abbrev pub swarm_after : Pair → Opened Pair → Result Swarm ℕ
 swarm_after size work = go_on (with_moves size work) (all_said move_of work.before work.rest)

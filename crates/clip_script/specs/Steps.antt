@@ -72,7 +72,8 @@ unfoldable pub spaces_of : ℕ → List (List ℕ) → Option (List HalfSpace)
 spaces_of most [] = Some []
 spaces_of zero (word ∷ more) = None
 spaces_of (suc most) (word ∷ more) =
-    option_and_then (λ said. option_map (λ spaces. said.space ∷ spaces) (spaces_of most said.rest)) (space_of (word ∷ more))
+    option_and_then (λ said. option_map (λ spaces. said.space ∷ spaces) (spaces_of most said.rest))
+    (space_of (word ∷ more))
 
 -- what the code's reader of a half-space found
 abbrev pub space_said : Group → SpaceSaid

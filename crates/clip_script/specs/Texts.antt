@@ -39,11 +39,14 @@ event_text p event = word_of event ++ codes " " ++ numbers_of p event
 
 -- a region by its four corners
 abbrev pub region_text : Region → List ℕ
-region_text r = signed_decimal r.x0 ++ codes " " ++ signed_decimal r.y0 ++ codes " " ++ signed_decimal r.x1 ++ codes " " ++ signed_decimal r.y1
+region_text r =
+    signed_decimal r.x0 ++ codes " " ++ signed_decimal r.y0 ++ codes " " ++ signed_decimal r.x1 ++ codes " "
+    ++ signed_decimal r.y1
 
 -- a tile of a level
 abbrev pub tile_text : ℕ → TileId → List ℕ
-tile_text level tile = codes "level " ++ decimal level ++ codes " tile " ++ decimal tile.tx ++ codes " " ++ decimal tile.ty
+tile_text level tile =
+    codes "level " ++ decimal level ++ codes " tile " ++ decimal tile.tx ++ codes " " ++ decimal tile.ty
 
 -- what an event without anything to do is answered: a pass that gives a piece back had none
 abbrev pub idle_text : Event → List ℕ

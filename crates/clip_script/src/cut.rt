@@ -2,7 +2,7 @@
 
 ghost use Rattle.std.specs.Prelude.{◌≡◌, ◌+◌, ◌<◌, ◌≤◌, ◌==◌, [], ◌∷◌, take, drop, length, MatchOption};
 ghost use Rattle.std.specs.List.{position_or_len};
-ghost use Rattle.clip_script.specs.Lines.{is_skipped, lines, words, words_after};
+ghost use Rattle.clip_script.specs.Lines.{is_skipped, lines, words, words_after, IsNextWord};
 
 /// The front of a text, and what is left of it.
 #[derive(Clone, Copy)]
@@ -65,7 +65,7 @@ pub(crate) fn first_word(line: &[u8]) -> Cut<'_>
 
 /// The next word behind a word, where there is one.
 pub(crate) fn next_word(rest: &[u8]) -> Option<Cut<'_>>
-    ensures value { MatchOption result (rest.now ≡ []) (λ cut. words_after rest.now ≡ cut.front.now ∷ words_after cut.rest.now) }
+    ensures value { MatchOption result (rest.now ≡ []) (IsNextWord rest.now) }
 {
     match rest {
         [] => None,

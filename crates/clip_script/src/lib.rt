@@ -15,16 +15,18 @@ mod spaces;
 mod step;
 mod swarm;
 mod text;
+mod views;
 mod write;
 
 pub use fault::{LINE_LIMIT, ScriptFault};
 pub use fly::{FlyScript, read_fly};
-pub use laws::{written_steps_are_lines, written_steps_are_read};
+pub use laws::{views_are_asked_for_by_lines, written_steps_are_lines, written_steps_are_read};
 pub use plan_model::FlyLine;
 pub use play::{PlayScript, read_play};
 pub use region_cull::{HalfSpace, View};
 pub use step::Step;
 pub use swarm::{SwarmScript, read_swarm};
+pub use views::view_line;
 pub use write::{NoMemory, write_log, write_step};
 
 #[cfg(test)]

@@ -2,7 +2,7 @@
 
 ghost use Rattle.std.specs.Prelude.{◌≡◌, ℕ, ◌+◌, ◌≤◌, List, All, Option, Ok, IfOk, IfErr, IfSome, OnOk, length, vec_len, [], ◌∷◌, ◌++◌};
 ghost use Rattle.clip_script.specs.Lines.{lines};
-ghost use Rattle.clip_script.specs.Reading.{all_said, opened, opened_as, IsStop};
+ghost use Rattle.clip_script.specs.Reading.{said_in, opened_in, opened_as, IsStop};
 
 use crate::cut::{is_skipped, next_line};
 use crate::fault::ScriptFault;
@@ -55,10 +55,10 @@ pub(crate) fn read_opening<'a, T: Drop, G: Grammar<T>>(
     left: Left<'a>,
 ) -> Result<Opening<'a, T>, ScriptFault>
     requires few { left.before + length (lines left.text.now) ≤ 1048577 }
-    ensures said { IfOk result (λ opening. opened (G.says grammar.now) left.entry.before (lines left.entry.text.now) ≡ Ok (opened_as opening)) }
+    ensures said { IfOk result (λ opening. opened_in (G.says grammar.now) left.entry ≡ Ok (opened_as opening)) }
     ensures fits { IfOk result (λ opening. G.fits grammar.now opening.said) }
     ensures few { IfOk result (λ opening. opening.left.before + length (lines opening.left.text.now) ≤ 1048577) }
-    ensures stop { IfErr result (IsStop (opened (G.says grammar.now) left.entry.before (lines left.entry.text.now))) }
+    ensures stop { IfErr result (IsStop (opened_in (G.says grammar.now) left.entry)) }
 {
     let Left {
         mut before,
@@ -99,10 +99,10 @@ pub(crate) fn read_all<T: Drop, G: Grammar<T>>(
     left: Left<'_>,
 ) -> Result<Vec<T>, ScriptFault>
     requires few { left.before + length (lines left.text.now) ≤ 1048577 }
-    ensures said { IfOk result (λ all. all_said (G.says grammar.now) left.entry.before (lines left.entry.text.now) ≡ Ok all.items) }
+    ensures said { IfOk result (λ all. said_in (G.says grammar.now) left.entry ≡ Ok all.items) }
     ensures fits { IfOk result (λ all. All (G.fits grammar.now) all.items) }
     ensures few { IfOk result (λ all. vec_len all ≤ 1048577) }
-    ensures stop { IfErr result (IsStop (all_said (G.says grammar.now) left.entry.before (lines left.entry.text.now))) }
+    ensures stop { IfErr result (IsStop (said_in (G.says grammar.now) left.entry)) }
 {
     let Left {
         mut before,

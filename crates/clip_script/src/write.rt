@@ -21,8 +21,8 @@ fn append(out: &mut Vec<u8>, line: &str) -> Result<(), NoMemory>
     }
 }
 
-/// Appends the script line of an event of a pass, with its line feed. The pass of a move or a publication isn't written.
-/// Where there is no memory, nothing changes.
+/// Appends the script line of an event of a pass, with its line feed. The pass of a move or a publication isn't
+/// written. Where there is no memory, nothing changes.
 #[tactic(auto, unfolding(crate::specs::Texts::step_line))]
 pub fn write_step(out: &mut Vec<u8>, pass: u8, event: &Event) -> Result<(), NoMemory>
     ensures line { OnOk result (out.new.items ≡ out.old.items ++ step_line pass event.now) }

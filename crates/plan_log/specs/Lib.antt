@@ -1,4 +1,2 @@
-pub mod Lines
-pub mod Replies
-pub mod Statuses
-pub mod Texts
+pub mod Halts
+pub mod Logs

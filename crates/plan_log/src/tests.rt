@@ -1,128 +1,37 @@
-//! Lines that are read and lines that aren't, and whole scripts with their logs.
+//! Whole scripts with their logs, and how they end.
 
 use crate::halt::Halt;
-use crate::play::play;
-use crate::play_through;
-use crate::script::{ScriptLine, script_line};
-use plan_model::Event;
-use plan_plain::PlainAsked;
+use crate::{play_through, read_script};
 use std::alloc::Global;
 use std::io;
-use std::io::{BufReader, ErrorKind, Read, Write};
-use std::test::Fail;
+use std::io::{ErrorKind, Read, Write};
 
-#[test]
-fn reads_lines(rt: HostRuntime) {
-    for (line, pass, event) in [
-        (
-            "move 0 -4194304",
-            0,
-            Event::Move {
-                x: 0,
-                y: -4194304,
-                a: 0,
-            },
-        ),
-        (
-            "move 1 -1 1048576",
-            0,
-            Event::Move {
-                x: 1,
-                y: -1,
-                a: 1048576,
-            },
-        ),
-        ("move 1 1 0", 0, Event::Move { x: 1, y: 1, a: 0 }),
-        ("claim 0", 0, Event::Claim),
-        ("finish 15", 15, Event::Finish),
-        ("publish 11", 0, Event::Publish { level: 11 }),
-        ("begin 9", 9, Event::Begin),
-        ("end 10", 10, Event::End),
-    ] {
-        let asked = ScriptLine::Asked(PlainAsked { pass, event });
-        assert_eq!(rt; script_line(line.as_bytes()), Some(asked), "{line}");
-    }
-    let size = ScriptLine::Size { k: 8, levels: 12 };
-    assert_eq!(rt; script_line(b"size 8 12"), Some(size));
-    for line in ["", "#", "#claim 0", "# \u{e9}\t\r"] {
-        assert_eq!(rt;
-            script_line(line.as_bytes()),
-            Some(ScriptLine::Skipped),
-            "{line}"
-        );
-    }
-    assert_eq!(rt; script_line(b"#\xff"), Some(ScriptLine::Skipped));
-}
-
-#[test]
-fn refuses_lines(rt: HostRuntime) {
-    for line in [
-        " ",
-        " # a",
-        "size 4 1 ",
-        " size 4 1",
-        "size 4  1",
-        "size 3 1",
-        "size 9 1",
-        "size 4 0",
-        "size 4 13",
-        "size 4",
-        "size 4 1 1",
-        "move 01 1",
-        "move -0 1",
-        "move +1 1",
-        "move 1 4194305",
-        "move -4194305 1",
-        "move 1",
-        "move 1 1 -1",
-        "move 1 1 01",
-        "move 1 1 1048577",
-        "move 1 1 1 1",
-        "claim",
-        "claim ",
-        "claim 16",
-        "claim -1",
-        "claim 0 0",
-        "claim 00",
-        "claim\t0",
-        "claim 0\r",
-        "claim \u{0661}",
-        "Claim 0",
-        "publish 12",
-        "see 0 0 0",
-        "pause",
-    ] {
-        assert_eq!(rt; script_line(line.as_bytes()), None, "{line:?}");
-    }
-    assert_eq!(rt; script_line(b"claim \xff"), None);
-}
-
-// The log of a script, as far as it went, and how it ended.
+// The log of a script, and how it ended.
 fn logged(alloc: Global, script: &[u8]) -> (Vec<u8>, Result<(), Halt>) {
     let mut log = Vec::new(alloc);
-    let ended = play(alloc, script, &mut log);
+    let ended = play_through(alloc, script, &mut log);
     (log, ended)
 }
 
 #[test]
-fn ends_at_a_bad_line(rt: HostRuntime) {
-    for (script, log, number) in [
-        ("", "", 1),
-        ("\n# a\n", "", 3),
-        ("\n# a", "", 3),
-        ("claim 0\n", "", 1),
-        ("# a\nclaim 0\nsize 4 1\n", "", 2),
-        ("size 4 1\nmove 1 1\nsize 4 1\n", "move 1 1: moved\n", 3),
-        ("size 4 1\npublish 1\n", "", 2),
-        (
-            "size 4 1\n\npublish 0\nclaim 0\r\n",
-            "publish 0: waiting 9\n",
-            4,
-        ),
+fn refuses_a_script_at_a_line(rt: HostRuntime) {
+    for (script, number) in [
+        ("", 1),
+        ("\n# a\n", 3),
+        ("\n# a", 3),
+        ("claim 0\n", 1),
+        ("# a\nclaim 0\nsize 4 1\n", 2),
+        ("size 4 1\nmove 1 1\nsize 4 1\n", 3),
+        ("size 4 1\npublish 1\n", 2),
+        ("size 4 1\n\npublish 0\nclaim 0\r\n", 4),
+        ("size 4 1\nsee\n", 2),
+        ("# see\nsize 4 1\nbegin 0\n\nendseen 0\nsee 1 0 0 -9\n", 5),
+        ("size 4 1\nsee\nclaim 16\n", 3),
+        ("size 4 1\nseen\n", 2),
     ] {
-        let (got, ended) = logged(rt.alloc(), script.as_bytes());
-        assert_eq!(rt; got.as_slice(), log.as_bytes(), "{script:?}");
+        let (log, ended) = logged(rt.alloc(), script.as_bytes());
         assert_eq!(rt; ended, Err(Halt::Line(number)), "{script:?}");
+        assert_eq!(rt; log.as_slice(), b"".as_slice(), "{script:?}");
     }
 }
 
@@ -167,18 +76,18 @@ impl Write for Broken {
 }
 
 #[test]
-fn tells_a_failed_read(rt: HostRuntime) -> Result<(), Fail> {
-    let script = b"size 4 1\nend 0\nen".as_slice().chain(Broken);
-    let mut log = Vec::new(rt.alloc());
-    let ended = play(rt.alloc(), BufReader::new(rt.alloc(), script)?, &mut log);
-    assert_eq!(rt; ended, Err(Halt::ReadFailed));
-    assert_eq!(rt; log.as_slice(), b"end 0: noframe\n".as_slice());
-    Ok(())
+fn reads_all_or_tells_a_failed_read(rt: HostRuntime) {
+    let script = b"size 4 1\nend 0\n".as_slice();
+    let read = read_script(rt.alloc(), &mut script.chain(b"claim 0".as_slice()));
+    let all = b"size 4 1\nend 0\nclaim 0".as_slice();
+    assert!(rt; read.is_ok_and(|script| script.as_slice() == all));
+    let failed = read_script(rt.alloc(), &mut script.chain(Broken));
+    assert_eq!(rt; failed.err(), Some(Halt::ReadFailed));
 }
 
 #[test]
 fn tells_a_failed_write(rt: HostRuntime) {
-    let script = b"size 4 1\nend 0\nclaim";
+    let script = b"size 4 1\nend 0";
     let ended = play_through(rt.alloc(), script.as_slice(), &mut Broken);
     assert_eq!(rt; ended, Err(Halt::WriteFailed));
 }

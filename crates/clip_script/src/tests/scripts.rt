@@ -1,5 +1,5 @@
 //! Whole scripts.
-use crate::{ScriptFault, Step, read_play};
+use crate::{ScriptFault, Step, read_play, view_line};
 use plan_model::Event;
 use std::alloc::Global;
 use std::test::Fail;
@@ -69,4 +69,16 @@ fn judges_many_lines_first(rt: HostRuntime) -> Result<(), Fail> {
     let fault = read_play(rt.alloc(), &text).err();
     assert_eq!(rt; fault, Some(ScriptFault::TooMany { lines: 1_048_578 }));
     Ok(())
+}
+
+#[test]
+fn finds_the_first_line_that_asks_for_a_view(rt: HostRuntime) {
+    for (text, line) in [
+        (b"".as_slice(), 1),
+        (b"size 4 1\nseen\nsees 1\n# see\n\xff see".as_slice(), 6),
+        (b"size 4 1\nsee\nendseen 0\n".as_slice(), 2),
+        (b"# see\nsize 4 1\n\nendseen 0".as_slice(), 4),
+    ] {
+        assert_eq!(rt; view_line(text), line, "line {line}");
+    }
 }
