@@ -1,5 +1,5 @@
 -- A block that is found in a store.
-use Rattle.std.proofs.Common.{◌≡◌, ℕ, ◌+◌, ◌-◌, ◌*◌, ◌/◌, ◌%◌, ◌<◌, ◌≤◌, List, length, ℤ, pos, ◌+ℤ◌, ◌-ℤ◌, ◌*ℤ◌, ◌≤ℤ◌, ap, sym, ◌∙◌, subst, arith}
+use Rattle.std.proofs.Common.{◌≡◌, ℕ, ◌+◌, ◌-◌, ◌*◌, ◌/◌, ◌%◌, ◌<◌, List, ℤ, pos, ap, sym, ◌∙◌, subst, arith}
 use Rattle.std.proofs.lemmas.Int.{ints}
 use Rattle.std.proofs.lemmas.Nat.{div_below, mod_below}
 use Rattle.clip_regions.specs.declared.region.Region.{Region}
@@ -13,7 +13,7 @@ use Rattle.store_model.specs.Format.{Head}
 use Rattle.store_model.specs.Store.{region_of}
 use Rattle.store_index.specs.declared.sizes.Place.{Place}
 use Rattle.store_index.specs.Laws.{BlocksAreFound, NumbersAreBelow}
-use Rattle.store_index.specs.Places.{block_total, stored_block, IsBlockAt, IsPlaceOf, HasNoBlock, IsBlockIn}
+use Rattle.store_index.specs.Places.{block_total, stored_block, IsBlockAt, IsPlaceOf, IsBlockIn}
 use Rattle.terrain_store.specs.Stores.{Stored, IsStored}
 use Rattle.terrain_store.specs.Blocks.{IsStoredBlock, HasBlock, IsKindOf}
 

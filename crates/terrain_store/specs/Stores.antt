@@ -1,5 +1,5 @@
 -- What a store is to its users.
-use Rattle.std.specs.Prelude.{◌≡◌, ℕ, ℤ, List}
+use Rattle.std.specs.Prelude.{ℕ, ℤ, List}
 use Rattle.height_pyramid.specs.Extremes.{IsLeast, IsGreatest}
 use Rattle.terrain_model.specs.Terrain.{Terrain}
 use Rattle.store_model.specs.Format.{Head}

@@ -1,9 +1,13 @@
+ghost use Rattle.std.specs.Prelude.{◌≡◌};
+
 use super::*;
 use block_heights::{Block, Kind};
 use clip_regions::Region;
 use height_pyramid::Grid;
 use rice_residuals::BlockFault;
 use std::alloc::Global;
+use std::mem::size_of;
+use std::snapshot::Snapshot;
 use std::test::Fail;
 
 /// 3 x 3 samples, all 0 but the middle one.
@@ -188,5 +192,24 @@ fn threads_share_stores_and_shapes(rt: HostRuntime) -> Result<(), Fail> {
     let store = pack(alloc, &peak(alloc, 7)?, 1)?;
     shared(&store);
     shared(&store.shape());
+    Ok(())
+}
+
+/// The name of a shape's terrain, once more.
+fn named(shape: &Shape) -> Snapshot<Shape>
+    ensures { result.value ≡ shape.now }
+{
+    Snapshot::of(shape)
+}
+
+#[test]
+fn a_snapshot_names_the_terrain_of_a_shape(rt: HostRuntime) -> Result<(), Fail> {
+    let alloc = rt.alloc();
+    let shape = pack(alloc, &peak(alloc, 7)?, 1)?.shape();
+    let first = named(&shape);
+    let second = named(&shape);
+    shared(&first);
+    shared(&second);
+    assert_eq!(rt; size_of::<Snapshot<Shape>>(), 0);
     Ok(())
 }

@@ -1,8 +1,7 @@
-use Rattle.std.proofs.Common.{◌≡◌, ℕ, List, ap, ◌∙◌, sym, subst, refl, inr}
+use Rattle.std.proofs.Common.{ℕ, List, ap, ◌∙◌, sym, subst, refl, inr}
 use Rattle.store_model.specs.Format.{Head}
 use Rattle.store_model.specs.Store.{IsStore}
-use Rattle.store_model.specs.Restored.{restored_terrain, canonical_store, head_of}
-use Rattle.terrain_store.specs.Stores.{Stored}
+use Rattle.store_model.specs.Restored.{restored_terrain, head_of}
 use Rattle.terrain_store.proofs.packing.pack_by.Goals as goal
 
 pub returns-in-Ok : goal.returns-in-Ok
