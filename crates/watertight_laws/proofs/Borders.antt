@@ -1,26 +1,25 @@
 -- How many stitches along the border of an active region go from one vertex to another.
-use Rattle.std.proofs.Common.{◌≡◌, ℕ, ◌+◌, ◌*◌, ◌<◌, Bool, true, false, cond, ◌&&◌, List, [], ◌∷◌, ℤ, pos, negsuc, ◌+ℤ◌, ◌-ℤ◌, ◌*ℤ◌, map, reverse, refl, ap, sym, subst, ◌∙◌, inl, inr, arith}
+use Rattle.std.proofs.Common.{◌≡◌, ℕ, ◌+◌, ◌*◌, Bool, true, false, cond, ◌&&◌, List, [], ◌∷◌, ℤ, pos, negsuc, ◌+ℤ◌, ◌-ℤ◌, ◌*ℤ◌, map, reverse, refl, ap, sym, subst, ◌∙◌, inl, inr, arith}
 use Rattle.std.specs.List.{sum_by, flat_map, range_with_len}
 use Rattle.std.specs.Int.{int_gap}
 use Rattle.std.specs.Ordering.{int_eq}
 use Rattle.std.proofs.lemmas.Int.{ints}
 use Rattle.std.proofs.lemmas.Bool.{false_from_ne_true}
 use Rattle.clip_regions.specs.declared.region.Region.{Region}
-use Rattle.clip_regions.specs.FloorDivision.{floor_div}
-use Rattle.clip_regions.specs.Regions.{contains, is_empty, empty_region, columns, rows, HasEvenCorners}
+use Rattle.clip_regions.specs.Regions.{contains, empty_region, columns, rows, HasEvenCorners}
 use Rattle.plan_model.specs.Laws.{IsEvenOrEmpty}
-use Rattle.active_region.specs.Active.{IsWide, IsWideOrEmpty}
+use Rattle.active_region.specs.Active.{IsWideOrEmpty}
 use Rattle.mesh_model.specs.declared.shapes.Vertex.{Vertex}
 use Rattle.mesh_model.specs.declared.shapes.PartKind.TheVariants.{StitchNorth, StitchEast, StitchSouth, StitchWest}
 use Rattle.mesh_model.specs.Vertices.{hole}
 use Rattle.mesh_model.specs.Parts.{PartTriangles, corner_place, stitches_along, places_in_row, places_in_column, stitch_part, stitch_parts}
 use Rattle.watertight_laws.specs.Edges.{Spot, Nowhere, At, coarser_spot, by_step, has_cell_at, north_steps, east_steps, south_steps, west_steps, border_edges}
-use Rattle.watertight_laws.proofs.Sums.{one_if, sum_flat_map}
+use Rattle.watertight_laws.proofs.Sums.{sum_flat_map}
 use Rattle.watertight_laws.proofs.Picks.{gap_is}
 use Rattle.watertight_laws.proofs.Marks.{Marks}
 use Rattle.watertight_laws.proofs.Squares.{edges_of}
 use Rattle.watertight_laws.proofs.Regions.{Lies, lies, HasCell, wide_has_cell, not_empty, empty_is_empty, halved, hole_of_empty, hole_is, even_if_cell, twice}
-use Rattle.watertight_laws.proofs.Walks.{turned, Walk, IsDouble, walk_tally, steps, north_walk, east_walk, south_walk, west_walk, north_side, east_side, south_side, west_side}
+use Rattle.watertight_laws.proofs.Walks.{turned, walk_tally, north_walk, east_walk, south_walk, west_walk, north_side, east_side, south_side, west_side}
 
 map_of_map : {A B C : Type 0} (f : B → C) (g : A → B) (xs : List A) → map f (map g xs) ≡ map (λ x. f (g x)) xs
 map_of_map f g [] = refl

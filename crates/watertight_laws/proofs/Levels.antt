@@ -1,6 +1,6 @@
 -- How many triangles of a mesh go from one vertex to another, level by level.
-use Rattle.std.proofs.Common.{◌≡◌, ◌≢◌, ℕ, ◌+◌, ◌<◌, ◌≤◌, Bool, true, false, cond, ◌&&◌, ◌||◌, ◌==◌, List, [], ◌∷◌, ◌++◌, length, refl, ap, sym, ◌∙◌, arith}
-use Rattle.std.specs.List.{All, AllPairs, sum_by, flat_map, slice_index}
+use Rattle.std.proofs.Common.{◌≡◌, ◌≢◌, ℕ, ◌+◌, ◌<◌, ◌≤◌, Bool, true, false, cond, ◌&&◌, ◌||◌, ◌==◌, List, [], ◌∷◌, ◌++◌, length, refl, sym, ◌∙◌, arith}
+use Rattle.std.specs.List.{All, sum_by, flat_map, slice_index}
 use Rattle.std.proofs.lemmas.Bool.{eqb-true}
 use Rattle.std.proofs.lemmas.List.Sums.{sum_by-append, sum_by-cons}
 use Rattle.std.proofs.lemmas.List.Elements.{All-head, All-tail}
@@ -10,13 +10,13 @@ use Rattle.plan_model.specs.Laws.{AllEvenOrEmpty, AreNested}
 use Rattle.active_region.specs.Active.{IsWideOrEmpty}
 use Rattle.terrain_model.specs.Terrain.{Terrain}
 use Rattle.mesh_model.specs.declared.shapes.Vertex.{Vertex}
-use Rattle.mesh_model.specs.Vertices.{hole, mesh_vertices}
+use Rattle.mesh_model.specs.Vertices.{mesh_vertices}
 use Rattle.mesh_model.specs.Parts.{PartTriangles, square_parts, square_parts_from, stitch_parts, stitch_parts_from, all_stitch_parts, parts_of_regions}
 use Rattle.mesh_model.specs.Mesh.{mesh, mesh_of_parts}
 use Rattle.mesh_model.specs.Laws.{VerticesApart, OwnPlaces}
 use Rattle.mesh_model.specs.Watertight.{has_edge, edge_count}
 use Rattle.mesh_laws.specs.Laws.{PartSquares}
-use Rattle.watertight_laws.specs.Edges.{Spot, coarser_spot, ring_edges, border_edges, square_edges_from, stitch_edges_from, all_stitch_edges, edges_between}
+use Rattle.watertight_laws.specs.Edges.{Spot, coarser_spot, square_edges_from, stitch_edges_from, all_stitch_edges, edges_between}
 use Rattle.watertight_laws.specs.Laws.{spot_of}
 use Rattle.watertight_laws.proofs.Sums.{one_if, sum_flat_map}
 use Rattle.watertight_laws.proofs.Marks.{Marks, marks_first, marks_next}

@@ -6,3 +6,11 @@ pub mod Regions
 pub mod Walks
 pub mod Borders
 pub mod Levels
+pub mod Ways
+pub mod Lines
+pub mod Rings
+pub mod OneLevel
+pub mod Coarsest
+pub mod Closing
+pub mod Corners
+pub mod Whole

@@ -1,6 +1,6 @@
 -- A test that picks one number between two ends, or one cell of a region.
-use Rattle.std.proofs.Common.{◌≡◌, ℕ, ◌+◌, ◌-◌, ◌<◌, Bool, true, false, cond, ◌&&◌, List, [], ◌∷◌, ℤ, pos, negsuc, ◌+ℤ◌, ◌≤ℤ◌, map, refl, ap, sym, ◌∙◌, arith}
-use Rattle.std.specs.List.{sum_by, flat_map, range_with_len}
+use Rattle.std.proofs.Common.{◌≡◌, ℕ, ◌+◌, ◌-◌, ◌<◌, Bool, true, false, ◌&&◌, List, ℤ, pos, negsuc, ◌+ℤ◌, ◌≤ℤ◌, map, refl, ap, sym, ◌∙◌, arith}
+use Rattle.std.specs.List.{sum_by, range_with_len}
 use Rattle.std.specs.Int.{int_gap}
 use Rattle.std.specs.Ordering.{int_eq}
 use Rattle.std.proofs.lemmas.Int.{ints}

@@ -1,7 +1,7 @@
 -- Which cells a region and its hole have.
-use Rattle.std.proofs.Common.{◌≡◌, ℕ, ◌<◌, true, false, ◌&&◌, ℤ, pos, negsuc, ◌+ℤ◌, ◌-ℤ◌, ◌*ℤ◌, ◌≤ℤ◌, ◌<ℤ◌, refl, ap, sym, ◌∙◌, subst, inl, inr, ◌⊎◌, arith}
+use Rattle.std.proofs.Common.{◌≡◌, ℕ, ◌<◌, true, false, ◌&&◌, ℤ, pos, ◌+ℤ◌, ◌-ℤ◌, ◌*ℤ◌, ◌≤ℤ◌, refl, ap, sym, ◌∙◌, subst, inl, inr, arith}
 use Rattle.std.proofs.lemmas.Int.{ints}
-use Rattle.std.proofs.lemmas.Bool.{and_parts, and_from, or_parts, or_from, cases_Bool, true≢false, false_from_ne_true}
+use Rattle.std.proofs.lemmas.Bool.{and_parts, and_from, or_parts, or_from, cases_Bool, true≢false}
 use lib.Signed.{lt_z, le_z}
 use Rattle.clip_regions.specs.declared.region.Region.{Region}
 use Rattle.clip_regions.specs.FloorDivision.{floor_div, floor_rem}
@@ -100,7 +100,7 @@ pub hole_of_empty : hole empty_region ≡ empty_region
 unfolding hole
 hole_of_empty = rw empty_is_empty refl
 
-halved_has_cell : (r : Region) → HasCell r → HasCell (halved r)
+pub halved_has_cell : (r : Region) → HasCell r → HasCell (halved r)
 halved_has_cell r some = record { across = half_order r.x0 r.x1 some.across; along = half_order r.y0 r.y1 some.along }
 
 -- the hole of a region that has a cell is the region with each corner halved

@@ -1,6 +1,6 @@
 -- Stitches along a walk that is an image of a range, and steps of a walk along a side of a region.
 use Rattle.std.proofs.Common.{◌≡◌, ℕ, zero, suc, ◌+◌, ◌*◌, ◌<◌, Bool, true, false, cond, ◌&&◌, ◌==◌, List, [], ◌∷◌, ◌++◌, ℤ, pos, negsuc, ◌+ℤ◌, ◌-ℤ◌, ◌*ℤ◌, map, reverse, refl, ap, sym, ◌∙◌, arith}
-use Rattle.std.specs.List.{sum_by, range_with_len, slice_index}
+use Rattle.std.specs.List.{sum_by, range_with_len}
 use Rattle.std.specs.Int.{int_gap}
 use Rattle.std.specs.Ordering.{int_eq}
 use Rattle.std.proofs.lemmas.Int.{ints}
@@ -150,9 +150,10 @@ steps_along g n dx dz r place along (At x z) (At x' z') =
         let e3 : (g (u + 1)).1 ≡ z' = same_from (g (u + 1)).1 z' all.3 in
         let sx : x' ≡ x +ℤ dx = sym e2 ∙ along.column u ∙ ap (λ i. i +ℤ dx) e0 in
         let sz : z' ≡ z +ℤ dz = sym e3 ∙ along.row u ∙ ap (λ j. j +ℤ dz) e1 in
-        let inside : contains r x z ≡ true = sym (λ t. contains r (e0 t) (e1 t)) ∙ lying r (g u).0 (g u).1 (along.there u below) in
-        (and_from (int_eq x' (x +ℤ dx) && int_eq z' (z +ℤ dz)) (contains r x z) (and_from (int_eq x' (x +ℤ dx)) (int_eq z' (z +ℤ dz)) (same_int x' (x +ℤ dx) sx) (same_int z' (z +ℤ dz) sz)) inside,
-        along.own u below ∙ (λ t. place (e0 t) (e1 t)))
+        let inside : contains r x z ≡ true = sym (λ t. contains r (e0 t) (e1 t)) ∙ lying r (g u).0 (g u).1 (along.there u below) in (
+          and_from (int_eq x' (x +ℤ dx) && int_eq z' (z +ℤ dz)) (contains r x z) (and_from (int_eq x' (x +ℤ dx)) (int_eq z' (z +ℤ dz)) (same_int x' (x +ℤ dx) sx) (same_int z' (z +ℤ dz) sz)) inside,
+          along.own u below ∙ (λ t. place (e0 t) (e1 t)),
+        )
 
     found : ((int_eq x' (x +ℤ dx) && int_eq z' (z +ℤ dz)) && contains r x z) ≡ true → (place x z < n) × (leads g (At x z) (At x' z') (place x z) ≡ true)
     found e =

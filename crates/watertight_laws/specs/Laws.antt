@@ -2,19 +2,20 @@
 use Rattle.std.specs.Prelude.{◌≡◌, ◌≢◌, ℕ, ◌<◌, ◌≤◌, List, length, All}
 use Rattle.clip_regions.specs.declared.region.Region.{Region}
 use Rattle.plan_model.specs.Laws.{AllEvenOrEmpty, AreNested}
-use Rattle.active_region.specs.Active.{IsWideOrEmpty}
+use Rattle.active_region.specs.Active.{IsWideOrEmpty, AreActive}
 use Rattle.terrain_model.specs.Terrain.{Terrain}
 use Rattle.mesh_model.specs.declared.shapes.Vertex.{Vertex}
 use Rattle.mesh_model.specs.Vertices.{mesh_vertices}
 use Rattle.mesh_model.specs.Mesh.{mesh}
-use Rattle.mesh_model.specs.Watertight.{vertex_of_place, edge_count}
+use Rattle.plan_model.specs.Actives.{actives}
+use Rattle.mesh_model.specs.Watertight.{vertex_of_place, edge_count, EdgesClose}
 use Rattle.watertight_laws.specs.Edges.{Spot, At, edges_between}
 
 -- where the vertex at a place stands on the finest level
 unfoldable pub spot_of : List Vertex → ℕ → Spot
 spot_of vertices place = At (vertex_of_place vertices place).x (vertex_of_place vertices place).z
 
--- how many triangles go from one vertex of the mesh of nested regions to another
+-- how many triangles go from one vertex of the mesh of nested regions to another, where each region is empty or has sides of 2 or more
 abbrev pub EdgesAreCounted : Type 0
 EdgesAreCounted =
     (terrain : Terrain) (k e : ℕ) (actives : List Region) (a b : ℕ) →
@@ -22,3 +23,18 @@ EdgesAreCounted =
     a < length (mesh_vertices terrain k actives) → b < length (mesh_vertices terrain k actives) → a ≢ b →
     edge_count (mesh terrain k actives).triangles a b
     ≡ edges_between actives (spot_of (mesh_vertices terrain k actives) a) (spot_of (mesh_vertices terrain k actives) b)
+
+-- each edge of the mesh of nested regions is closed, where each is empty or has sides of 2 or more
+abbrev pub NestedEdgesClose : Type 0
+NestedEdgesClose =
+    (terrain : Terrain) (k e : ℕ) (actives : List Region) → 1 ≤ e →
+    AllEvenOrEmpty actives → All IsWideOrEmpty actives → AreNested e actives → EdgesClose terrain k actives
+
+-- each edge of the mesh of a plan's active regions is closed
+abbrev pub DrawnEdgesClose : Type 0
+DrawnEdgesClose =
+    (terrain : Terrain) (k finest : ℕ) (filled : List Region) → AllEvenOrEmpty filled → EdgesClose terrain k (actives k finest filled)
+
+-- each edge of the mesh of a frame's active regions is closed
+abbrev pub ActiveEdgesClose : Type 0
+ActiveEdgesClose = (terrain : Terrain) (k : ℕ) (actives : List Region) → AreActive actives → EdgesClose terrain k actives

@@ -1,14 +1,29 @@
 //! Laws over the definitions alone: each function's contract is the law.
 
-ghost use Rattle.watertight_laws.specs.Laws.{EdgesAreCounted};
+ghost use Rattle.watertight_laws.specs.Laws.{EdgesAreCounted, NestedEdgesClose, DrawnEdgesClose, ActiveEdgesClose};
 
 use mesh_laws::parts_have_ring_squares;
-use mesh_model::vertices_apart;
+use mesh_model::{nested_names, vertices_apart};
+use plan_model::{actives_are_nested, actives_have_even_corners};
 
-/// How many triangles go from one vertex of a mesh to another, in closed form.
+/// How many triangles of the mesh of nested active regions go from one vertex to another, in closed form.
 pub fn edges_are_counted()
     ensures { EdgesAreCounted }
 {
     vertices_apart();
     parts_have_ring_squares();
+}
+
+/// An edge on the border of the coarsest active region is in one triangle, and any other edge in two, once
+/// in each direction: for nested regions, for those of any plan, and for those of a frame.
+pub fn edges_close()
+    ensures nested { NestedEdgesClose }
+    ensures drawn { DrawnEdgesClose }
+    ensures active { ActiveEdgesClose }
+{
+    vertices_apart();
+    nested_names();
+    parts_have_ring_squares();
+    actives_are_nested();
+    actives_have_even_corners();
 }
