@@ -1,0 +1,4 @@
+mod Cuts
+mod Heads
+mod Bodies
+mod Faces

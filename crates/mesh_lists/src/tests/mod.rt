@@ -1,0 +1,2 @@
+//! Texts and their lists.
+mod texts;
