@@ -15,15 +15,15 @@ use Rattle.mesh_model.specs.Vertices.{hole}
 use Rattle.mesh_model.specs.Parts.{PartTriangles, corner_place, stitches_along, places_in_row, places_in_column, stitch_part, stitch_parts}
 use Rattle.watertight_laws.specs.Edges.{Spot, Nowhere, At, coarser_spot, by_step, has_cell_at, north_steps, east_steps, south_steps, west_steps, border_edges}
 use Rattle.watertight_laws.proofs.Sums.{sum_flat_map}
-use Rattle.watertight_laws.proofs.Picks.{gap_is}
 use Rattle.watertight_laws.proofs.Marks.{Marks}
 use Rattle.watertight_laws.proofs.Squares.{edges_of}
-use Rattle.watertight_laws.proofs.Regions.{Lies, lies, HasCell, wide_has_cell, not_empty, empty_is_empty, halved, hole_of_empty, hole_is, even_if_cell, twice}
+use Rattle.watertight_laws.proofs.Regions.{wide_has_cell, twice}
 use Rattle.watertight_laws.proofs.Walks.{turned, walk_tally, north_walk, east_walk, south_walk, west_walk, north_side, east_side, south_side, west_side}
-
-map_of_map : {A B C : Type 0} (f : B → C) (g : A → B) (xs : List A) → map f (map g xs) ≡ map (λ x. f (g x)) xs
-map_of_map f g [] = refl
-map_of_map f g (x ∷ xs) = ap (λ rest. f (g x) ∷ rest) (map_of_map f g xs)
+use Rattle.plan_model.proofs.ActiveLaws.{even_if_cell}
+use Rattle.mesh_model.proofs.Rectangles.{halved, hole_is, no_hole}
+use Rattle.mesh_model.proofs.Ranges.{map_of_map}
+use Rattle.clip_regions.proofs.Gaps.{gap_by}
+use Rattle.clip_regions.proofs.Cells.{HasCell, Lies, empty_is_empty, lies, not_empty}
 
 -- ---- an empty region has no border
 pub by_none : (dx dz : ℤ) (count : ℤ → ℤ → ℕ) → ((x z : ℤ) → count x z ≡ 0) → (p q : Spot) → by_step dx dz count p q ≡ 0
@@ -61,17 +61,17 @@ are_halves r even = record { west = twice r.x0 even.x0; east = twice r.x1 even.x
 
 more_columns : (r : Region) → HasCell r → columns r ≡ int_gap r.x0 r.x1 + 1
 unfolding columns
-more_columns r some = let a = some.across in let g = gap_is r.x0 r.x1 in let g' = gap_is r.x0 (r.x1 +ℤ pos 1) in omega (arith, ints, a, g, g')
+more_columns r some = let a = some.across in let g = gap_by r.x0 r.x1 in let g' = gap_by r.x0 (r.x1 +ℤ pos 1) in omega (arith, ints, a, g, g')
 
 more_rows : (r : Region) → HasCell r → rows r ≡ int_gap r.y0 r.y1 + 1
 unfolding rows
-more_rows r some = let a = some.along in let g = gap_is r.y0 r.y1 in let g' = gap_is r.y0 (r.y1 +ℤ pos 1) in omega (arith, ints, a, g, g')
+more_rows r some = let a = some.along in let g = gap_by r.y0 r.y1 in let g' = gap_by r.y0 (r.y1 +ℤ pos 1) in omega (arith, ints, a, g, g')
 
 half_columns : (r g : Region) → AreHalves r g → int_gap r.x0 r.x1 ≡ 2 * int_gap g.x0 g.x1
-half_columns r g h = let a = h.west in let b = h.east in let w = gap_is r.x0 r.x1 in let w' = gap_is g.x0 g.x1 in omega (arith, ints, a, b, w, w')
+half_columns r g h = let a = h.west in let b = h.east in let w = gap_by r.x0 r.x1 in let w' = gap_by g.x0 g.x1 in omega (arith, ints, a, b, w, w')
 
 half_rows : (r g : Region) → AreHalves r g → int_gap r.y0 r.y1 ≡ 2 * int_gap g.y0 g.y1
-half_rows r g h = let a = h.north in let b = h.south in let w = gap_is r.y0 r.y1 in let w' = gap_is g.y0 g.y1 in omega (arith, ints, a, b, w, w')
+half_rows r g h = let a = h.north in let b = h.south in let w = gap_by r.y0 r.y1 in let w' = gap_by g.y0 g.y1 in omega (arith, ints, a, b, w, w')
 
 -- ---- the walks in the mesh
 module _ (vertices : List Vertex) (level : ℕ) (r : Region) (some : HasCell r) where
@@ -95,7 +95,7 @@ module _ (vertices : List Vertex) (level : ℕ) (r : Region) (some : HasCell r) 
       ∙ turned (λ u. corner_place vertices level (r.x0 +ℤ pos u) r.y1) (λ u. corner_place vertices level (r.x1 -ℤ pos u) r.y1) (int_gap r.x0 r.x1 + 1) 0 (λ u w low e. ap (λ i. corner_place vertices level i r.y1) (back u w e))
     where
       back : (u w : ℕ) → u + w + 1 ≡ int_gap r.x0 r.x1 + 1 + 0 → r.x0 +ℤ pos u ≡ r.x1 -ℤ pos w
-      back u w e = let a = some.across in let g = gap_is r.x0 r.x1 in omega (arith, ints, a, g, e)
+      back u w e = let a = some.across in let g = gap_by r.x0 r.x1 in omega (arith, ints, a, g, e)
 
   west_places : reverse (places_in_column vertices level r r.x0) ≡ map (λ u. corner_place vertices level (west_walk r u).0 (west_walk r u).1) (range_with_len 0 (int_gap r.y0 r.y1 + 1))
   unfolding places_in_column
@@ -105,7 +105,7 @@ module _ (vertices : List Vertex) (level : ℕ) (r : Region) (some : HasCell r) 
       ∙ turned (λ u. corner_place vertices level r.x0 (r.y0 +ℤ pos u)) (λ u. corner_place vertices level r.x0 (r.y1 -ℤ pos u)) (int_gap r.y0 r.y1 + 1) 0 (λ u w low e. ap (λ j. corner_place vertices level r.x0 j) (back u w e))
     where
       back : (u w : ℕ) → u + w + 1 ≡ int_gap r.y0 r.y1 + 1 + 0 → r.y0 +ℤ pos u ≡ r.y1 -ℤ pos w
-      back u w e = let a = some.along in let g = gap_is r.y0 r.y1 in omega (arith, ints, a, g, e)
+      back u w e = let a = some.along in let g = gap_by r.y0 r.y1 in omega (arith, ints, a, g, e)
 
 -- the parts of the stitches round a region that has a cell
 four_parts : List Vertex → ℕ → Region → List PartTriangles
@@ -188,7 +188,7 @@ module _ (vertices : List Vertex) (level a b : ℕ) (p q : Spot) (ma : Marks ver
     where
       none : sum_by (edges_of a b) (flat_map (λ (part : PartTriangles). part.triangles) (stitch_parts vertices level empty_region)) ≡ border_edges empty_region p q + border_edges (hole empty_region) (coarser_spot q) (coarser_spot p)
       none =
-          let holes : border_edges (hole empty_region) (coarser_spot q) (coarser_spot p) ≡ 0 = ap (λ r. border_edges r (coarser_spot q) (coarser_spot p)) hole_of_empty ∙ no_border (coarser_spot q) (coarser_spot p) in
+          let holes : border_edges (hole empty_region) (coarser_spot q) (coarser_spot p) ≡ 0 = ap (λ r. border_edges r (coarser_spot q) (coarser_spot p)) no_hole ∙ no_border (coarser_spot q) (coarser_spot p) in
           let own = no_border p q in
           ap (λ parts. sum_by (edges_of a b) (flat_map (λ (part : PartTriangles). part.triangles) parts)) (parts_none vertices level) ∙ (omega (arith, holes, own))
   border_tally active (inr wide) shape =

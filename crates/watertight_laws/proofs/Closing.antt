@@ -15,13 +15,16 @@ use Rattle.mesh_model.specs.Watertight.{scaled}
 use Rattle.mesh_laws.specs.Conditions.{IsCut}
 use Rattle.mesh_laws.specs.Laws.{SquaresOnce}
 use Rattle.watertight_laws.specs.Edges.{Spot, Nowhere, At, coarser_spot}
-use Rattle.watertight_laws.proofs.Picks.{same_from, same_int, one_test, le_test, le_tested}
-use Rattle.watertight_laws.proofs.Marks.{half_and_rest, rem_below}
-use Rattle.watertight_laws.proofs.Regions.{Lies, HasCell, wide_has_cell, hole_of_empty, hole_is, halved, halved_has_cell, even_if_cell, twice, IsInner, IsDeep, half_deep}
+use Rattle.watertight_laws.proofs.Picks.{same_from, same_int}
+use Rattle.watertight_laws.proofs.Regions.{wide_has_cell, twice, half_deep}
 use Rattle.watertight_laws.proofs.Ways.{edges_from, from_nowhere, to_nowhere, even_spot}
 use Rattle.watertight_laws.proofs.Rings.{HasSides, IsStrictlyIn, IsRingShape, Balanced, Unused, Shared}
 use Rattle.watertight_laws.proofs.OneLevel.{on_side, off_side, Closes, None, Shut, there_of, last_of}
 use Rattle.watertight_laws.proofs.Coarsest.{OfLevel, Short, Long, level_of}
+use Rattle.plan_model.proofs.ActiveLaws.{even_if_cell}
+use Rattle.mesh_model.proofs.Rectangles.{IsInner, half_and_rest, halved, halved_has_cell, hole_is, no_hole, rem_below}
+use Rattle.mesh_laws.proofs.Rectangles.{IsDeep}
+use Rattle.clip_regions.proofs.Cells.{HasCell, Lies, le_tested, same_test, tested_le}
 
 -- ---- the shape of a ring
 sides_of : (r : Region) → IsWide r → HasSides r
@@ -71,7 +74,7 @@ cut_out r g sides inside =
 
 ring_shape : (e : ℕ) (finer active : Region) → 1 ≤ e → IsWideOrEmpty finer → IsEvenOrEmpty finer → IsWideOrEmpty active → IsInner e finer active → IsRingShape active (hole finer)
 ring_shape e finer active some (inl none) even wide inner =
-    let gone : hole finer ≡ empty_region = ap hole none ∙ hole_of_empty in
+    let gone : hole finer ≡ empty_region = ap hole none ∙ no_hole in
     record {
       columns = columns_sides active wide;
       rows = rows_sides active wide;
@@ -175,19 +178,19 @@ inside_off o r x z x' z' s l =
 -- ---- sides on the next coarser level
 double_le : (a b x : ℤ) → x ≡ pos 2 *ℤ b → le_z (a *ℤ pos 2) x ≡ le_z a b
 double_le a b x h =
-    one_test (le_z (a *ℤ pos 2) x) (le_z a b)
-    (λ t. le_test a b (let l : (a *ℤ pos 2) ≤ℤ x = le_tested (a *ℤ pos 2) x t in omega (arith, ints, h, l)))
-    (λ t. le_test (a *ℤ pos 2) x (let l : a ≤ℤ b = le_tested a b t in omega (arith, ints, h, l)))
+    same_test (le_z (a *ℤ pos 2) x) (le_z a b)
+    (λ t. le_tested a b (let l : (a *ℤ pos 2) ≤ℤ x = tested_le (a *ℤ pos 2) x t in omega (arith, ints, h, l)))
+    (λ t. le_tested (a *ℤ pos 2) x (let l : a ≤ℤ b = tested_le a b t in omega (arith, ints, h, l)))
 
 double_ge : (a b x : ℤ) → x ≡ pos 2 *ℤ b → le_z x (a *ℤ pos 2) ≡ le_z b a
 double_ge a b x h =
-    one_test (le_z x (a *ℤ pos 2)) (le_z b a)
-    (λ t. le_test b a (let l : x ≤ℤ (a *ℤ pos 2) = le_tested x (a *ℤ pos 2) t in omega (arith, ints, h, l)))
-    (λ t. le_test x (a *ℤ pos 2) (let l : b ≤ℤ a = le_tested b a t in omega (arith, ints, h, l)))
+    same_test (le_z x (a *ℤ pos 2)) (le_z b a)
+    (λ t. le_tested b a (let l : x ≤ℤ (a *ℤ pos 2) = tested_le x (a *ℤ pos 2) t in omega (arith, ints, h, l)))
+    (λ t. le_tested x (a *ℤ pos 2) (let l : b ≤ℤ a = tested_le b a t in omega (arith, ints, h, l)))
 
 double_eq : (a b x : ℤ) → x ≡ pos 2 *ℤ b → int_eq x (a *ℤ pos 2) ≡ int_eq b a
 double_eq a b x h =
-    one_test (int_eq x (a *ℤ pos 2)) (int_eq b a)
+    same_test (int_eq x (a *ℤ pos 2)) (int_eq b a)
     (λ t. same_int b a (let l : x ≡ a *ℤ pos 2 = same_from x (a *ℤ pos 2) t in omega (arith, ints, h, l)))
     (λ t. same_int x (a *ℤ pos 2) (let l : b ≡ a = same_from b a t in omega (arith, ints, h, l)))
 

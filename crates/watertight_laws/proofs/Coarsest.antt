@@ -9,10 +9,10 @@ use Rattle.mesh_model.specs.Vertices.{hole}
 use Rattle.mesh_laws.specs.Laws.{SquaresOnce}
 use Rattle.watertight_laws.specs.Edges.{Nowhere, At, coarser_spot, ring_edges, has_cell_at, north_steps, east_steps, south_steps, west_steps, border_edges}
 use Rattle.watertight_laws.proofs.Sums.{one_if}
-use Rattle.watertight_laws.proofs.Regions.{Lies, lies, lying}
 use Rattle.watertight_laws.proofs.Ways.{IsStep, Kind, South, East, Across, North, West, Back, Far, kind_of, far_ring, far_border, far_back, south_border, east_border, across_border, north_border, west_border, back_border, one_nowhere}
 use Rattle.watertight_laws.proofs.Rings.{HasSides, IsRingShape, Balanced, Unused, Shared}
 use Rattle.watertight_laws.proofs.OneLevel.{both_at, on_side, off_side, both_there, on_columns, on_rows, Closes, None, Open, Shut, closes_last, there_of, last_of, south_back, east_back, across_back, south_balanced, east_balanced, across_balanced}
+use Rattle.clip_regions.proofs.Cells.{Lies, lies, lying}
 
 cell_is : (r : Region) (x z : ℤ) → has_cell_at r x z ≡ one_if (contains r x z)
 unfolding has_cell_at

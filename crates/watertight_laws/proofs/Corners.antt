@@ -1,8 +1,7 @@
 -- Each triangle of a mesh has three corners, so one that names vertices goes along no edge from or to a place that is none.
-use Rattle.std.proofs.Common.{◌≡◌, ℕ, zero, suc, ◌+◌, ◌<◌, ◌≤◌, false, ◌&&◌, ◌||◌, ◌==◌, List, [], ◌∷◌, ◌++◌, reverse, ℤ, length, get_or, map, refl, ap, sym, subst, inl, inr, ◌⊎◌, arith}
-use Rattle.std.specs.List.{All, flat_map, slice_index}
+use Rattle.std.proofs.Common.{◌≡◌, ℕ, zero, suc, ◌+◌, ◌<◌, ◌≤◌, false, ◌&&◌, ◌||◌, ◌==◌, List, [], ◌∷◌, ◌++◌, reverse, ℤ, length, get_or, refl, ap, sym, subst, inl, inr, ◌⊎◌, arith}
+use Rattle.std.specs.List.{All, slice_index}
 use Rattle.std.proofs.lemmas.Bool.{cases_Bool, and_right, false_from_ne_true, eqb-true}
-use Rattle.std.proofs.lemmas.List.{get_or-map, length-map}
 use Rattle.std.proofs.lemmas.List.Elements.{All-nil, All-cons, All-head, All-tail, All-append, All-map}
 use Rattle.std.proofs.lemmas.List.Sums.{sum_by-cons}
 use Rattle.clip_regions.specs.declared.region.Region.{Region}
@@ -19,22 +18,14 @@ use Rattle.mesh_model.specs.Watertight.{has_edge, edge_count}
 use Rattle.mesh_laws.specs.Squares.{part_squares, triangles_in}
 use Rattle.mesh_laws.specs.Laws.{PartSquares}
 use Rattle.watertight_laws.proofs.Sums.{one_if}
+use Rattle.mesh_model.proofs.Whole.{all_of_map}
+use Rattle.mesh_model.proofs.Cells.{all_flat_map}
 
 abbrev Three : List ℕ → Type 0
 Three triangle = length triangle ≡ 3
 
 abbrev AllThree : PartTriangles → Type 0
 AllThree part = All Three part.triangles
-
-all_of_map : {A B : Type 0} (P : B → Type 0) (f : A → B) (xs : List A) → All P (map f xs) → All (λ x. P (f x)) xs
-all_of_map P f xs h k d low =
-    subst P (get_or-map f xs k d (f d) low) (h k (f d) (omega (arith, length-map xs f)))
-
-all_flat_map : {A B : Type 0} (P : B → Type 0) (f : A → List B) (xs : List A) → All (λ x. All P (f x)) xs → All P (flat_map f xs)
-all_flat_map P f [] h = All-nil P
-all_flat_map P f (x ∷ xs) h =
-    All-append P (f x) (flat_map f xs) (All-head (λ y. All P (f y)) x xs h)
-    (all_flat_map P f xs (All-tail (λ y. All P (f y)) x xs h))
 
 square_three : (vertices : List Vertex) (level : ℕ) (i j : ℤ) → All Three (square_triangles vertices level i j)
 unfolding square_triangles

@@ -13,4 +13,5 @@ pub mod OneLevel
 pub mod Coarsest
 pub mod Closing
 pub mod Corners
+pub mod Agreeing
 pub mod Whole

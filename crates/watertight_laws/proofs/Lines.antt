@@ -61,11 +61,3 @@ balance true true s s' rs rs' ra rb gs gs' ga gb l = both_in s s' rs rs' ra rb g
 balance true false s s' rs rs' ra rb gs gs' ga gb l = region_only s s' rs rs' ra rb gs gs' ga gb l.squares l.squares' (l.region refl)
 balance false false s s' rs rs' ra rb gs gs' ga gb l = neither s s' rs rs' ra rb gs gs' ga gb l.squares l.squares'
 balance false true s s' rs rs' ra rb gs gs' ga gb l = absurd (false≢true (l.both refl))
-
--- nothing, or one each way where the line is in the span
-pub settled : (z : Bool) (n u : ℕ) → (z ≡ true → u ≤ 1) → n ≤ u * one_if z → (z ≡ true → n ≡ 1 → u ≡ 1)
-settled z n u most h e one = let below = most e in let bound : n ≤ u * 1 = ap_le z n u e h in omega (arith, below, bound, one)
-  where
-    ap_le : (z' : Bool) (n' u' : ℕ) → z' ≡ true → n' ≤ u' * one_if z' → n' ≤ u' * 1
-    ap_le true n' u' e' h' = h'
-    ap_le false n' u' e' h' = absurd (false≢true e')

@@ -1,11 +1,9 @@
 -- Where the place of a corner is that of a given vertex: exactly at the vertex's spot on the corner's level.
-use Rattle.std.proofs.Common.{◌≡◌, ℕ, suc, ◌+◌, ◌*◌, ◌^◌, ◌<◌, true, false, cond, ◌&&◌, ◌==◌, List, [], ◌∷◌, ℤ, pos, negsuc, ◌+ℤ◌, ◌*ℤ◌, length, refl, ap, sym, subst, ◌∙◌, inl, inr, arith}
+use Rattle.std.proofs.Common.{◌≡◌, ℕ, suc, ◌+◌, ◌^◌, ◌<◌, true, false, cond, ◌&&◌, ◌==◌, List, [], ◌∷◌, ℤ, pos, ◌*ℤ◌, length, refl, ap, sym, subst, ◌∙◌, inl, inr, arith}
 use Rattle.std.specs.List.{AllPairs}
 use Rattle.std.specs.Ordering.{int_eq}
 use Rattle.std.proofs.lemmas.Int.{ints}
-use Rattle.std.proofs.lemmas.Nat.{pow-add}
 use Rattle.std.proofs.lemmas.Bool.{cases_Bool, and_parts, and_from, false_from_ne_true, false≢true, eqb-true, eq-eqb}
-use borrow.Author.Differences.{up, down}
 use Rattle.clip_regions.specs.FloorDivision.{floor_div, floor_rem}
 use Rattle.mesh_model.specs.declared.shapes.Vertex.{Vertex}
 use Rattle.mesh_model.specs.Vertices.{place_of}
@@ -15,7 +13,10 @@ use Rattle.mesh_model.specs.Laws.{OwnPlaces}
 use Rattle.mesh_model.specs.Watertight.{vertex_of_place}
 use Rattle.watertight_laws.specs.Edges.{Spot, Nowhere, At, is_at, coarser_spot}
 use Rattle.watertight_laws.specs.Laws.{spot_of}
-use Rattle.watertight_laws.proofs.Picks.{same_from, same_int, one_test}
+use Rattle.watertight_laws.proofs.Picks.{same_from, same_int}
+use Rattle.mesh_model.proofs.Rectangles.{half_and_rest, rem_below}
+use Rattle.mesh_model.proofs.Listed.{coarser_step}
+use Rattle.clip_regions.proofs.Cells.{same_test}
 
 -- the vertex at a found place stands at the position
 stands : (vertices : List Vertex) (x z : ℤ) → place_of vertices x z < length vertices →
@@ -41,7 +42,7 @@ marked : (vertices : List Vertex) (a : ℕ) → AllPairs StandApart vertices →
     (place_of vertices x z == a) ≡ is_at (spot_of vertices a) x z
 unfolding spot_of vertex_of_place
 marked vertices a apart own low x z =
-    one_test (place_of vertices x z == a) (int_eq x (vertex_of_place vertices a).x && int_eq z (vertex_of_place vertices a).z) found there
+    same_test (place_of vertices x z == a) (int_eq x (vertex_of_place vertices a).x && int_eq z (vertex_of_place vertices a).z) found there
   where
     found : (place_of vertices x z == a) ≡ true → (int_eq x (vertex_of_place vertices a).x && int_eq z (vertex_of_place vertices a).z) ≡ true
     found t =
@@ -73,33 +74,14 @@ marks_first vertices a apart own low = record {
 }
 
 -- ---- one level coarser
-coarser_step : (i : ℤ) (level : ℕ) → i *ℤ pos (2 ^ (level + 1)) ≡ (pos 2 *ℤ i) *ℤ pos (2 ^ level)
-coarser_step i level = ap (λ n. i *ℤ pos n) (pow-add 2 level 1) ∙ grouped i (2 ^ level)
-  where
-    grouped : (a : ℤ) (n : ℕ) → a *ℤ pos (n * 2) ≡ (pos 2 *ℤ a) *ℤ pos n
-    grouped a n =
-        let twice : up (pos 2 *ℤ a) + 2 * down a ≡ down (pos 2 *ℤ a) + 2 * up a = omega (arith, ints) in
-        let scaled : (up (pos 2 *ℤ a) + 2 * down a) * n ≡ (down (pos 2 *ℤ a) + 2 * up a) * n = ap (λ m. m * n) twice in
-        omega (arith, ints, scaled)
-
 pub finer_corner : (vertices : List Vertex) (level : ℕ) (i j : ℤ) → corner_place vertices (level + 1) i j ≡ corner_place vertices level (pos 2 *ℤ i) (pos 2 *ℤ j)
 unfolding corner_place
 finer_corner vertices level i j = λ t. place_of vertices (coarser_step i level t) (coarser_step j level t)
 
-pub rem_below : (z : ℤ) → floor_rem z 2 < 2
-unfolding floor_rem
-rem_below (pos n) = omega arith
-rem_below (negsuc n) = omega arith
-
-pub half_and_rest : (z : ℤ) → z ≡ pos 2 *ℤ floor_div z 2 +ℤ pos (floor_rem z 2)
-unfolding floor_div floor_rem
-half_and_rest (pos n) = omega (arith, ints)
-half_and_rest (negsuc n) = omega (arith, ints)
-
 half_test : (x i : ℤ) → floor_rem x 2 ≡ 0 → int_eq (pos 2 *ℤ i) x ≡ int_eq i (floor_div x 2)
 half_test x i even =
     let whole = half_and_rest x in
-    one_test (int_eq (pos 2 *ℤ i) x) (int_eq i (floor_div x 2))
+    same_test (int_eq (pos 2 *ℤ i) x) (int_eq i (floor_div x 2))
     (λ t. same_int i (floor_div x 2) (let e : pos 2 *ℤ i ≡ x = same_from (pos 2 *ℤ i) x t in omega (arith, ints, e, whole, even)))
     (λ t. same_int (pos 2 *ℤ i) x (let e : i ≡ floor_div x 2 = same_from i (floor_div x 2) t in omega (arith, ints, e, whole, even)))
 

@@ -10,11 +10,11 @@ use Rattle.mesh_model.specs.Vertices.{hole}
 use Rattle.mesh_laws.specs.Laws.{SquaresOnce}
 use Rattle.watertight_laws.specs.Edges.{Spot, Nowhere, At, squares_at, ring_edges, border_edges}
 use Rattle.watertight_laws.proofs.Sums.{one_if}
-use Rattle.watertight_laws.proofs.Picks.{same_from, same_int, le_tested}
-use Rattle.watertight_laws.proofs.Regions.{Lies, lying}
+use Rattle.watertight_laws.proofs.Picks.{same_from, same_int}
 use Rattle.watertight_laws.proofs.Lines.{in_span, is_end, span_end_most, balance}
 use Rattle.watertight_laws.proofs.Ways.{IsStep, south_ring, east_ring, across_ring, north_ring, west_ring, back_ring, south_border, east_border, across_border, north_border, west_border, back_border}
 use Rattle.watertight_laws.proofs.Rings.{HasSides, IsRingShape, Balanced, Unused, Shared, spans, squares_line, east_is, west_is, north_is, south_is, south_line, east_line}
+use Rattle.clip_regions.proofs.Cells.{Lies, lying, tested_le}
 
 -- ---- the sides of a region
 abbrev pub both_at : ℤ → ℤ → ℤ → Bool
@@ -106,8 +106,8 @@ closes_last r x z x' z' s h s' h' m n false false border (Shared e e' l l') em e
 pub ended : (a c : ℤ) → is_end a c ≡ true → c ≡ a
 ended a c e =
     let parts : (le_z a c ≡ true) × (le_z c a ≡ true) = and_parts (le_z a c) (le_z c a) e in
-    let low : a ≤ℤ c = le_tested a c parts.0 in
-    let high : c ≤ℤ a = le_tested c a parts.1 in
+    let low : a ≤ℤ c = tested_le a c parts.0 in
+    let high : c ≤ℤ a = tested_le c a parts.1 in
     omega (arith, ints, low, high)
 
 -- ---- one level

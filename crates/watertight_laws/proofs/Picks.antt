@@ -1,41 +1,23 @@
 -- A test that picks one number between two ends, or one cell of a region.
-use Rattle.std.proofs.Common.{◌≡◌, ℕ, ◌+◌, ◌-◌, ◌<◌, Bool, true, false, ◌&&◌, List, ℤ, pos, negsuc, ◌+ℤ◌, ◌≤ℤ◌, map, refl, ap, sym, ◌∙◌, arith}
+use Rattle.std.proofs.Common.{◌≡◌, ℕ, ◌<◌, Bool, true, false, ◌&&◌, List, ℤ, pos, ◌+ℤ◌, ◌≤ℤ◌, map, refl, ap, sym, ◌∙◌, arith}
 use Rattle.std.specs.List.{sum_by, range_with_len}
 use Rattle.std.specs.Int.{int_gap}
 use Rattle.std.specs.Ordering.{int_eq}
 use Rattle.std.proofs.lemmas.Int.{ints}
 use Rattle.std.proofs.lemmas.Bool.{and_parts, and_from}
 use Rattle.std.proofs.lemmas.Bool.Decides.{Decides-int_eq}
-use borrow.Author.Differences.{up, down}
 use lib.Signed.{le_z}
 use Rattle.clip_regions.specs.declared.region.Region.{Region}
 use Rattle.clip_regions.specs.Regions.{contains, columns, rows, cells, numbers_from}
 use Rattle.watertight_laws.proofs.Sums.{one_if, sum_map, sum_flat_map, pick}
-
-pub gap_is : (a b : ℤ) → int_gap a b ≡ (up b + down a) - (up a + down b)
-gap_is (pos a) (pos b) = omega arith
-gap_is (pos a) (negsuc b) = omega arith
-gap_is (negsuc a) (pos b) = omega arith
-gap_is (negsuc a) (negsuc b) = omega arith
+use Rattle.clip_regions.proofs.Gaps.{gap_by}
+use Rattle.clip_regions.proofs.Cells.{le_tested, tested_le}
 
 pub same_from : (x y : ℤ) → int_eq x y ≡ true → x ≡ y
 same_from x y e = (Decides-int_eq x y).0 e
 
 pub same_int : (x y : ℤ) → x ≡ y → int_eq x y ≡ true
 same_int x y e = (Decides-int_eq x y).1 e
-
--- two tests that pass together are one
-pub one_test : (x y : Bool) → (x ≡ true → y ≡ true) → (y ≡ true → x ≡ true) → x ≡ y
-one_test true true f g = refl
-one_test true false f g = sym (f refl)
-one_test false true f g = g refl
-one_test false false f g = refl
-
-pub le_test : (a b : ℤ) → a ≤ℤ b → le_z a b ≡ true
-le_test a b h = grind (arith, ints)
-
-pub le_tested : (a b : ℤ) → le_z a b ≡ true → a ≤ℤ b
-le_tested a b e = omega (arith, ints)
 
 -- the numbers between two ends, with one that is picked where s is true
 pub pick_between : (t : ℤ → Bool) (s : Bool) (a b x : ℤ) → ((i : ℤ) → t i ≡ (s && int_eq i x)) →
@@ -48,20 +30,20 @@ pick_between t s a b x is =
     only u low passes =
         let both : (s ≡ true) × (int_eq (a +ℤ pos u) x ≡ true) = and_parts s (int_eq (a +ℤ pos u) x) (sym (is (a +ℤ pos u)) ∙ passes) in
         let e : a +ℤ pos u ≡ x = same_from (a +ℤ pos u) x both.1 in
-        let whole = gap_is a (b +ℤ pos 1) in
-        let part = gap_is a x in
+        let whole = gap_by a (b +ℤ pos 1) in
+        let part = gap_by a x in
         let from : a ≤ℤ x = omega (arith, ints, e) in
         let to : x ≤ℤ b = omega (arith, ints, e, low, whole) in
-        (and_from s (le_z a x && le_z x b) both.0 (and_from (le_z a x) (le_z x b) (le_test a x from) (le_test x b to)), omega (arith, ints, e, part))
+        (and_from s (le_z a x && le_z x b) both.0 (and_from (le_z a x) (le_z x b) (le_tested a x from) (le_tested x b to)), omega (arith, ints, e, part))
 
     there : (s && (le_z a x && le_z x b)) ≡ true → (int_gap a x < int_gap a (b +ℤ pos 1)) × (t (a +ℤ pos (int_gap a x)) ≡ true)
     there r =
         let both : (s ≡ true) × ((le_z a x && le_z x b) ≡ true) = and_parts s (le_z a x && le_z x b) r in
         let ends : (le_z a x ≡ true) × (le_z x b ≡ true) = and_parts (le_z a x) (le_z x b) both.1 in
-        let from : a ≤ℤ x = le_tested a x ends.0 in
-        let to : x ≤ℤ b = le_tested x b ends.1 in
-        let whole = gap_is a (b +ℤ pos 1) in
-        let part = gap_is a x in
+        let from : a ≤ℤ x = tested_le a x ends.0 in
+        let to : x ≤ℤ b = tested_le x b ends.1 in
+        let whole = gap_by a (b +ℤ pos 1) in
+        let part = gap_by a x in
         let e : a +ℤ pos (int_gap a x) ≡ x = omega (arith, ints, from, part) in
         (omega (arith, ints, from, to, whole, part), is (a +ℤ pos (int_gap a x)) ∙ and_from s (int_eq (a +ℤ pos (int_gap a x)) x) both.0 (same_int (a +ℤ pos (int_gap a x)) x e))
 

@@ -14,9 +14,8 @@ use Rattle.mesh_laws.specs.Squares.{squares_in, part_squares}
 use Rattle.mesh_laws.specs.Laws.{SquaresOnce}
 use Rattle.watertight_laws.specs.Edges.{squares_at, has_cell_at, north_steps, east_steps, south_steps, west_steps}
 use Rattle.watertight_laws.proofs.Sums.{one_if}
-use Rattle.watertight_laws.proofs.Picks.{le_test, le_tested}
-use Rattle.watertight_laws.proofs.Regions.{Lies}
 use Rattle.watertight_laws.proofs.Lines.{in_span, is_end, span_ends, span_end_most, end_in_span, shifted, one_and, IsLine}
+use Rattle.clip_regions.proofs.Cells.{Lies, le_tested, tested_le}
 
 -- a region with sides, and one with sides strictly inside another
 pub record HasSides (r : Region) : Type 0 where
@@ -45,8 +44,8 @@ pub data Balanced (r : Region) (x z x' z' : ℤ) (there back : ℕ) : Type 0 whe
 pub spans : (a b c : ℤ) → in_span a b c ≡ true → (a ≤ℤ c) × ((c +ℤ pos 1) ≤ℤ b)
 spans a b c e =
     let parts : (le_z a c ≡ true) × (le_z c (b -ℤ pos 1) ≡ true) = and_parts (le_z a c) (le_z c (b -ℤ pos 1)) e in
-    let low : a ≤ℤ c = le_tested a c parts.0 in
-    let high : c ≤ℤ (b -ℤ pos 1) = le_tested c (b -ℤ pos 1) parts.1 in
+    let low : a ≤ℤ c = tested_le a c parts.0 in
+    let high : c ≤ℤ (b -ℤ pos 1) = tested_le c (b -ℤ pos 1) parts.1 in
     (low, omega (arith, ints, high))
 
 wider : (a b a' b' c : ℤ) → a <ℤ a' → b' <ℤ b → in_span a' b' c ≡ true → in_span a b c ≡ true
@@ -54,7 +53,7 @@ wider a b a' b' c low high e =
     let s = spans a' b' c e in
     let from = s.0 in
     let to = s.1 in
-    and_from (le_z a c) (le_z c (b -ℤ pos 1)) (le_test a c (omega (arith, ints, low, from))) (le_test c (b -ℤ pos 1) (omega (arith, ints, high, to)))
+    and_from (le_z a c) (le_z c (b -ℤ pos 1)) (le_tested a c (omega (arith, ints, low, from))) (le_tested c (b -ℤ pos 1) (omega (arith, ints, high, to)))
 
 -- ---- how many squares
 square_is : (r : Region) (x z : ℤ) → one_if (contains (squares_in r) x z) ≡ one_if (in_span r.x0 r.x1 x) * one_if (in_span r.y0 r.y1 z)

@@ -12,8 +12,9 @@ use Rattle.mesh_laws.specs.Squares.{part_squares, triangles_in}
 use Rattle.mesh_laws.specs.Laws.{PartSquares}
 use Rattle.watertight_laws.specs.Edges.{Spot, Nowhere, At, is_at, by_step, squares_at, ring_edges}
 use Rattle.watertight_laws.proofs.Sums.{one_if, sum_map, sum_flat_map, sum_add, sum_none}
-use Rattle.watertight_laws.proofs.Picks.{same_from, same_int, one_test, pick_cell}
+use Rattle.watertight_laws.proofs.Picks.{same_from, same_int, pick_cell}
 use Rattle.watertight_laws.proofs.Marks.{Marks}
+use Rattle.clip_regions.proofs.Cells.{same_test}
 
 -- how many edges of a triangle go from a to b
 abbrev pub edges_of : ℕ → ℕ → List ℕ → ℕ
@@ -28,7 +29,7 @@ Axis : (ℤ → ℤ) → (ℤ → ℤ) → (ℤ → ℤ) → ℤ → Type 0
 Axis c d f step = (i p q : ℤ) → (int_eq (c i) p && int_eq (d i) q) ≡ (int_eq q (p +ℤ step) && int_eq i (f p))
 
 axis : (a c p q t i x : ℤ) → ((a ≡ p) × (c ≡ q) → (q ≡ t) × (i ≡ x)) → ((q ≡ t) × (i ≡ x) → (a ≡ p) × (c ≡ q)) → (int_eq a p && int_eq c q) ≡ (int_eq q t && int_eq i x)
-axis a c p q t i x f g = one_test (int_eq a p && int_eq c q) (int_eq q t && int_eq i x) (λ e. there (f (ends a p c q e))) (λ e. there (g (ends q t i x e)))
+axis a c p q t i x f g = same_test (int_eq a p && int_eq c q) (int_eq q t && int_eq i x) (λ e. there (f (ends a p c q e))) (λ e. there (g (ends q t i x e)))
   where
     ends : (a' p' c' q' : ℤ) → (int_eq a' p' && int_eq c' q') ≡ true → (a' ≡ p') × (c' ≡ q')
     ends a' p' c' q' e =

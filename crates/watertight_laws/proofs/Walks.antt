@@ -13,10 +13,11 @@ use Rattle.mesh_model.specs.declared.shapes.Vertex.{Vertex}
 use Rattle.mesh_model.specs.Parts.{corner_place, stitches_from, stitches_along}
 use Rattle.watertight_laws.specs.Edges.{Spot, Nowhere, At, is_at, coarser_spot, by_step, has_cell_at, north_steps, east_steps, south_steps, west_steps}
 use Rattle.watertight_laws.proofs.Sums.{one_if, sum_map, sum_add, sum_none, sum_twos, pick}
-use Rattle.watertight_laws.proofs.Picks.{gap_is, same_from, same_int}
+use Rattle.watertight_laws.proofs.Picks.{same_from, same_int}
 use Rattle.watertight_laws.proofs.Marks.{Marks, coarser_is_at}
 use Rattle.watertight_laws.proofs.Squares.{edges_of}
-use Rattle.watertight_laws.proofs.Regions.{Lies, lies, lying}
+use Rattle.clip_regions.proofs.Gaps.{gap_by}
+use Rattle.clip_regions.proofs.Cells.{Lies, lies, lying}
 
 -- the stitch of steps 2 · s and 2 · s + 1
 abbrev two_steps : (ℕ → ℕ) → ℕ → List ℕ
@@ -182,52 +183,52 @@ west_walk r u = (r.x0, r.y1 -ℤ pos u)
 
 pub north_side : (r : Region) (p q : Spot) → steps (north_walk r) (int_gap r.x0 r.x1) p q ≡ by_step (pos 1) (pos 0) (has_cell_at (north_steps r)) p q
 unfolding north_steps
-north_side r p q = let w = gap_is r.x0 r.x1 in
+north_side r p q = let w = gap_by r.x0 r.x1 in
     steps_along (north_walk r) (int_gap r.x0 r.x1) (pos 1) (pos 0) (north_steps r) (λ x z. int_gap r.x0 x) (record {
       column = λ u. omega (arith, ints);
       row = λ u. omega (arith, ints);
       there = λ u low. record { west = omega (arith, ints); east = omega (arith, ints, w, low); north = omega (arith, ints); south = omega (arith, ints) };
-      own = λ u low. let g = gap_is r.x0 (r.x0 +ℤ pos u) in omega (arith, ints, g);
-      low = λ x z l. let g = gap_is r.x0 x in let a = l.west in let b = l.east in omega (arith, ints, g, w, a, b);
-      at_column = λ x z l. let g = gap_is r.x0 x in let a = l.west in omega (arith, ints, g, a);
+      own = λ u low. let g = gap_by r.x0 (r.x0 +ℤ pos u) in omega (arith, ints, g);
+      low = λ x z l. let g = gap_by r.x0 x in let a = l.west in let b = l.east in omega (arith, ints, g, w, a, b);
+      at_column = λ x z l. let g = gap_by r.x0 x in let a = l.west in omega (arith, ints, g, a);
       at_row = λ x z l. let a = l.north in let b = l.south in omega (arith, ints, a, b);
     }) p q
 
 pub east_side : (r : Region) (p q : Spot) → steps (east_walk r) (int_gap r.y0 r.y1) p q ≡ by_step (pos 0) (pos 1) (has_cell_at (east_steps r)) p q
 unfolding east_steps
-east_side r p q = let w = gap_is r.y0 r.y1 in
+east_side r p q = let w = gap_by r.y0 r.y1 in
     steps_along (east_walk r) (int_gap r.y0 r.y1) (pos 0) (pos 1) (east_steps r) (λ x z. int_gap r.y0 z) (record {
       column = λ u. omega (arith, ints);
       row = λ u. omega (arith, ints);
       there = λ u low. record { west = omega (arith, ints); east = omega (arith, ints); north = omega (arith, ints); south = omega (arith, ints, w, low) };
-      own = λ u low. let g = gap_is r.y0 (r.y0 +ℤ pos u) in omega (arith, ints, g);
-      low = λ x z l. let g = gap_is r.y0 z in let a = l.north in let b = l.south in omega (arith, ints, g, w, a, b);
+      own = λ u low. let g = gap_by r.y0 (r.y0 +ℤ pos u) in omega (arith, ints, g);
+      low = λ x z l. let g = gap_by r.y0 z in let a = l.north in let b = l.south in omega (arith, ints, g, w, a, b);
       at_column = λ x z l. let a = l.west in let b = l.east in omega (arith, ints, a, b);
-      at_row = λ x z l. let g = gap_is r.y0 z in let a = l.north in omega (arith, ints, g, a);
+      at_row = λ x z l. let g = gap_by r.y0 z in let a = l.north in omega (arith, ints, g, a);
     }) p q
 
 pub south_side : (r : Region) (p q : Spot) → steps (south_walk r) (int_gap r.x0 r.x1) p q ≡ by_step (negsuc 0) (pos 0) (has_cell_at (south_steps r)) p q
 unfolding south_steps
-south_side r p q = let w = gap_is r.x0 r.x1 in
+south_side r p q = let w = gap_by r.x0 r.x1 in
     steps_along (south_walk r) (int_gap r.x0 r.x1) (negsuc 0) (pos 0) (south_steps r) (λ x z. int_gap x r.x1) (record {
       column = λ u. omega (arith, ints);
       row = λ u. omega (arith, ints);
       there = λ u low. record { west = omega (arith, ints, w, low); east = omega (arith, ints); north = omega (arith, ints); south = omega (arith, ints) };
-      own = λ u low. let g = gap_is (r.x1 -ℤ pos u) r.x1 in omega (arith, ints, g);
-      low = λ x z l. let g = gap_is x r.x1 in let a = l.west in let b = l.east in omega (arith, ints, g, w, a, b);
-      at_column = λ x z l. let g = gap_is x r.x1 in let a = l.east in omega (arith, ints, g, a);
+      own = λ u low. let g = gap_by (r.x1 -ℤ pos u) r.x1 in omega (arith, ints, g);
+      low = λ x z l. let g = gap_by x r.x1 in let a = l.west in let b = l.east in omega (arith, ints, g, w, a, b);
+      at_column = λ x z l. let g = gap_by x r.x1 in let a = l.east in omega (arith, ints, g, a);
       at_row = λ x z l. let a = l.north in let b = l.south in omega (arith, ints, a, b);
     }) p q
 
 pub west_side : (r : Region) (p q : Spot) → steps (west_walk r) (int_gap r.y0 r.y1) p q ≡ by_step (pos 0) (negsuc 0) (has_cell_at (west_steps r)) p q
 unfolding west_steps
-west_side r p q = let w = gap_is r.y0 r.y1 in
+west_side r p q = let w = gap_by r.y0 r.y1 in
     steps_along (west_walk r) (int_gap r.y0 r.y1) (pos 0) (negsuc 0) (west_steps r) (λ x z. int_gap z r.y1) (record {
       column = λ u. omega (arith, ints);
       row = λ u. omega (arith, ints);
       there = λ u low. record { west = omega (arith, ints); east = omega (arith, ints); north = omega (arith, ints, w, low); south = omega (arith, ints) };
-      own = λ u low. let g = gap_is (r.y1 -ℤ pos u) r.y1 in omega (arith, ints, g);
-      low = λ x z l. let g = gap_is z r.y1 in let a = l.north in let b = l.south in omega (arith, ints, g, w, a, b);
+      own = λ u low. let g = gap_by (r.y1 -ℤ pos u) r.y1 in omega (arith, ints, g);
+      low = λ x z l. let g = gap_by z r.y1 in let a = l.north in let b = l.south in omega (arith, ints, g, w, a, b);
       at_column = λ x z l. let a = l.west in let b = l.east in omega (arith, ints, a, b);
-      at_row = λ x z l. let g = gap_is z r.y1 in let a = l.south in omega (arith, ints, g, a);
+      at_row = λ x z l. let g = gap_by z r.y1 in let a = l.south in omega (arith, ints, g, a);
     }) p q

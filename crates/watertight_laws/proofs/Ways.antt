@@ -7,8 +7,9 @@ use Rattle.clip_regions.specs.declared.region.Region.{Region}
 use Rattle.clip_regions.specs.FloorDivision.{floor_div, floor_rem}
 use Rattle.mesh_model.specs.Vertices.{hole}
 use Rattle.watertight_laws.specs.Edges.{Spot, Nowhere, At, coarser_spot, by_step, squares_at, ring_edges, has_cell_at, north_steps, east_steps, south_steps, west_steps, border_edges, square_edges_from, stitch_edges_from}
-use Rattle.watertight_laws.proofs.Picks.{same_from, same_int, one_test}
-use Rattle.watertight_laws.proofs.Marks.{half_and_rest}
+use Rattle.watertight_laws.proofs.Picks.{same_from, same_int}
+use Rattle.mesh_model.proofs.Rectangles.{half_and_rest}
+use Rattle.clip_regions.proofs.Cells.{same_test}
 
 -- from (x, z) it is dx columns and dz rows to (x', z')
 pub record IsStep (dx dz x z x' z' : ℤ) : Type 0 where
@@ -17,7 +18,7 @@ pub record IsStep (dx dz x z x' z' : ℤ) : Type 0 where
 
 same_step : (d e x x' : ℤ) → x' ≡ x +ℤ d → int_eq x' (x +ℤ e) ≡ int_eq d e
 same_step d e x x' h =
-    one_test (int_eq x' (x +ℤ e)) (int_eq d e)
+    same_test (int_eq x' (x +ℤ e)) (int_eq d e)
     (λ t. same_int d e (let s : x' ≡ x +ℤ e = same_from x' (x +ℤ e) t in omega (arith, ints, h, s)))
     (λ t. same_int x' (x +ℤ e) (let s : d ≡ e = same_from d e t in omega (arith, ints, h, s)))
 
@@ -131,7 +132,7 @@ self_far = record { south = refl; east = refl; back = refl; across = refl; north
 -- the step back
 turn : (dx ex dz ez : ℤ) (kx lx kz lz : ℤ) → dx +ℤ ex ≡ pos 0 → dz +ℤ ez ≡ pos 0 → kx +ℤ lx ≡ pos 0 → kz +ℤ lz ≡ pos 0 → (int_eq dx kx && int_eq dz kz) ≡ false → (int_eq ex lx && int_eq ez lz) ≡ false
 turn dx ex dz ez kx lx kz lz hx hz gx gz e =
-    sym ((λ t. one_test (int_eq dx kx) (int_eq ex lx) forward back t && one_test (int_eq dz kz) (int_eq ez lz) forward' back' t)) ∙ e
+    sym ((λ t. same_test (int_eq dx kx) (int_eq ex lx) forward back t && same_test (int_eq dz kz) (int_eq ez lz) forward' back' t)) ∙ e
   where
     forward : int_eq dx kx ≡ true → int_eq ex lx ≡ true
     forward t = let s : dx ≡ kx = same_from dx kx t in same_int ex lx (omega (arith, ints, s, hx, gx))

@@ -1,35 +1,38 @@
 -- Every edge of a mesh is closed: the closed form of its counts, at the spots of its two vertices on the finest level.
-use Rattle.std.proofs.Common.{◌≡◌, ◌≢◌, ℕ, suc, ◌+◌, ◌-◌, ◌*◌, ◌^◌, ◌<◌, ◌≤◌, Bool, true, false, cond, ◌&&◌, ◌||◌, ◌==◌, List, [], ◌∷◌, length, ℤ, pos, ◌-ℤ◌, ◌*ℤ◌, refl, ap, sym, subst, ◌∙◌, inl, inr, arith}
+use Rattle.std.proofs.Common.{◌≡◌, ◌≢◌, ℕ, suc, ◌+◌, ◌-◌, ◌*◌, ◌^◌, ◌<◌, ◌≤◌, Bool, true, cond, ◌&&◌, ◌==◌, List, [], ◌∷◌, length, ℤ, pos, ◌*ℤ◌, refl, ap, sym, subst, ◌∙◌, inl, inr, arith}
 use Rattle.std.specs.List.{All, slice_index_or}
 use Rattle.std.proofs.lemmas.Int.{ints}
 use Rattle.std.proofs.lemmas.Nat.{pow-add}
-use Rattle.std.proofs.lemmas.Bool.{cases_Bool, cases_lt, cases_eq, or_parts, or_left, or_right, and_from, eq-eqb}
-use Rattle.std.proofs.lemmas.List.Elements.{All-nil, All-cons}
-use lib.Signed.{lt_z}
+use Rattle.std.proofs.lemmas.Bool.{cases_lt, cases_eq, or_left, or_right, and_from, eq-eqb}
 use Rattle.clip_regions.specs.declared.region.Region.{Region}
-use Rattle.clip_regions.specs.Regions.{is_empty, empty_region, meet}
+use Rattle.clip_regions.specs.Regions.{empty_region}
 use Rattle.plan_model.specs.Laws.{AllEvenOrEmpty, AreNested}
 use Rattle.plan_model.specs.Window.{margin}
-use Rattle.plan_model.specs.Actives.{drawable, inner, actives_by, filled_from, actives, active_of as plan_active}
-use Rattle.active_region.specs.Active.{IsWide, IsWideOrEmpty}
+use Rattle.plan_model.specs.Actives.{actives}
+use Rattle.active_region.specs.Active.{IsWideOrEmpty}
 use Rattle.terrain_model.specs.Terrain.{Terrain}
-use Rattle.mesh_model.specs.declared.shapes.Vertex.{Vertex}
 use Rattle.mesh_model.specs.Height.{active_of}
 use Rattle.mesh_model.specs.Vertices.{hole, mesh_vertices}
 use Rattle.mesh_model.specs.Parts.{parts_of_regions}
 use Rattle.mesh_model.specs.Mesh.{mesh, mesh_of_parts}
 use Rattle.mesh_model.specs.Laws.{NestedNames, VerticesApart, OwnPlaces}
-use Rattle.mesh_model.specs.Watertight.{edge_count, scaled, covered, vertex_of_place, is_on_side, is_closed_by, is_closed, EdgesClose}
+use Rattle.mesh_model.specs.Watertight.{edge_count, scaled, covered, vertex_of_place, is_on_side, is_closed_by, is_closed, EdgesClose, IsWatertight}
 use Rattle.mesh_laws.specs.Laws.{PartSquares, SquaresOnce}
 use Rattle.watertight_laws.specs.Edges.{Spot, Nowhere, At, coarser_spot, border_edges, square_edges_from, stitch_edges_from, edges_between}
 use Rattle.watertight_laws.specs.Laws.{spot_of}
-use Rattle.watertight_laws.proofs.Regions.{none_in, has_cell, empty_is_empty, hole_of_empty}
 use Rattle.watertight_laws.proofs.Borders.{no_border}
 use Rattle.watertight_laws.proofs.Levels.{counted, count_most, mesh_tally}
 use Rattle.watertight_laws.proofs.Ways.{IsStep, far_ring, far_border, self_far, edges_from, square_from_nowhere}
 use Rattle.watertight_laws.proofs.OneLevel.{on_side, Closes, None, Open, Shut}
 use Rattle.watertight_laws.proofs.Closing.{outer, closes_same, closing}
 use Rattle.watertight_laws.proofs.Corners.{none_out}
+use Rattle.watertight_laws.proofs.Agreeing.{heights_agree}
+use Rattle.mesh_laws.proofs.Flat.{stitches_flat}
+use Rattle.mesh_laws.proofs.Once.{squares_cover}
+use Rattle.plan_model.specs.Limits.{IsSize}
+use Rattle.mesh_model.proofs.Rectangles.{no_hole}
+use Rattle.mesh_model.proofs.Named.{from_nothing}
+use Rattle.clip_regions.proofs.Cells.{empty_is_empty}
 
 -- ---- the words of the definition
 closed_by : (there back : ℕ) (border : Bool) → Closes there back border → is_closed_by there back border ≡ true
@@ -42,10 +45,6 @@ closed_by there back border (Open side e) =
 closed_by there back border (Shut off e e') =
     or_right (there + back == 0) (cond border (there + back == 1) (there == 1 && back == 1))
     (ap (λ b. cond b (there + back == 1) (there == 1 && back == 1)) off ∙ and_from (there == 1) (back == 1) (eq-eqb there 1 e) (eq-eqb back 1 e'))
-
-side_is : (r : Region) (v w : Vertex) → is_on_side r v w ≡ on_side r (At v.x v.z) (At w.x w.z)
-unfolding is_on_side
-side_is r v w = refl
 
 -- ---- the region that the mesh covers
 more_power : (x : ℤ) (n : ℕ) → x *ℤ pos (2 ^ suc n) ≡ (x *ℤ pos (2 ^ n)) *ℤ pos 2
@@ -82,7 +81,7 @@ covered_is active coarser =
 whole_is : (active : Region) (coarser : List Region) (p q : Spot) → edges_between (active ∷ coarser) p q ≡ edges_from empty_region active coarser p q
 unfolding edges_between edges_from
 whole_is active coarser p q =
-    let none : border_edges (hole empty_region) q p ≡ 0 = ap (λ r. border_edges r q p) hole_of_empty ∙ no_border q p in
+    let none : border_edges (hole empty_region) q p ≡ 0 = ap (λ r. border_edges r q p) no_hole ∙ no_border q p in
     omega (arith, none)
 
 stay : (x z : ℤ) → IsStep (pos 0) (pos 0) x z x z
@@ -117,11 +116,6 @@ none_self active coarser p =
     omega (arith, squares, stitches)
 
 -- ---- all edges
-from_nothing : (e : ℕ) (actives : List Region) → AreNested e actives → AreNested e (empty_region ∷ actives)
-from_nothing e [] nested = tt
-from_nothing e (active ∷ coarser) nested =
-    ((λ (some : is_empty empty_region ≡ false). none_in _ empty_region empty_is_empty (has_cell empty_region some)), nested)
-
 module _ (parts : PartSquares) (once : SquaresOnce) (names : NestedNames) (apart : VerticesApart) (own : OwnPlaces) (terrain : Terrain) (k e : ℕ) (some : 1 ≤ e) where
   none_between : (active : Region) (coarser : List Region) → AllEvenOrEmpty (active ∷ coarser) → All IsWideOrEmpty (active ∷ coarser) → AreNested e (active ∷ coarser) →
       (a b : ℕ) → a < length (mesh_vertices terrain k (active ∷ coarser)) → b < length (mesh_vertices terrain k (active ∷ coarser)) → a ≡ b → edge_count (mesh terrain k (active ∷ coarser)).triangles a b ≡ 0
@@ -178,34 +172,16 @@ module _ (parts : PartSquares) (once : SquaresOnce) (names : NestedNames) (apart
   all_edges [] evens wides nested a b = refl
   all_edges (active ∷ coarser) evens wides nested a b = any_edge active coarser evens wides nested a b
 
--- ---- the active regions of a plan
-drawable_wide : (r : Region) → IsWideOrEmpty (drawable r)
-unfolding drawable
-drawable_wide r =
-    elim (cases_Bool (lt_z (r.x1 -ℤ r.x0) (pos 2) || lt_z (r.y1 -ℤ r.y0) (pos 2))) [
-      | inl small ↦ rw small (inl refl)
-      | inr wide ↦ rw wide (inr (sides wide))
-    ]
-  where
-    sides : (lt_z (r.x1 -ℤ r.x0) (pos 2) || lt_z (r.y1 -ℤ r.y0) (pos 2)) ≡ false → IsWide r
-    sides e =
-        let both : (lt_z (r.x1 -ℤ r.x0) (pos 2) ≡ false) × (lt_z (r.y1 -ℤ r.y0) (pos 2) ≡ false) = or_parts (lt_z (r.x1 -ℤ r.x0) (pos 2)) (lt_z (r.y1 -ℤ r.y0) (pos 2)) e in
-        let a = both.0 in
-        let b = both.1 in
-        record { across = omega (arith, ints, a); along = omega (arith, ints, b) }
-
-actives_wide : (e : ℕ) (filled : List Region) → All IsWideOrEmpty (actives_by e filled)
-actives_wide e [] = All-nil IsWideOrEmpty
-actives_wide e (filled ∷ coarser) = All-cons IsWideOrEmpty (plan_active e filled (actives_by e coarser)) (actives_by e coarser) (first (actives_by e coarser)) (actives_wide e coarser)
-  where
-    first : (rest : List Region) → IsWideOrEmpty (plan_active e filled rest)
-    first [] = drawable_wide filled
-    first (next ∷ rest) = drawable_wide (meet filled (inner e next))
-
-pub drawn_wide : (k finest : ℕ) (filled : List Region) → All IsWideOrEmpty (actives k finest filled)
-unfolding actives
-drawn_wide k finest filled = actives_wide (margin k) (filled_from finest filled)
-
 pub some_margin : (k : ℕ) → 1 ≤ margin k
 unfolding margin
 some_margin k = omega arith
+
+-- ---- all four points
+pub watertight : PartSquares → SquaresOnce → NestedNames → VerticesApart → OwnPlaces → (terrain : Terrain) (k : ℕ) (actives : List Region) → IsSize k →
+    AllEvenOrEmpty actives → All IsWideOrEmpty actives → AreNested (margin k) actives → IsWatertight terrain k actives
+watertight parts once names apart own terrain k actives size evens wides nested = record {
+  heights = heights_agree terrain k actives size nested;
+  stitches = stitches_flat terrain k (margin k) actives size (some_margin k) evens nested apart own;
+  edges = all_edges parts once names apart own terrain k (margin k) (some_margin k) actives evens wides nested;
+  squares = squares_cover (margin k) actives evens nested;
+}

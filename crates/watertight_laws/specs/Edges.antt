@@ -1,4 +1,4 @@
--- How many triangles of a mesh of active regions go from one position to another, in closed form: level by level, the squares of the ring and the stitches along its border.
+-- How many triangles of a mesh go from one position to another, in closed form: level by level, squares and stitches.
 use Rattle.std.specs.Prelude.{ℕ, ◌+◌, Bool, false, ◌&&◌, ◌==◌, ℤ, pos, negsuc, ◌+ℤ◌, ◌-ℤ◌, List, [], ◌∷◌, count_by, if◌then◌else◌}
 use Rattle.std.specs.Ordering.{int_eq}
 use Rattle.clip_regions.specs.declared.region.Region.{Region}
@@ -23,7 +23,7 @@ coarser_spot Nowhere = Nowhere
 coarser_spot (At x z) =
     if floor_rem x 2 == 0 && floor_rem z 2 == 0 then At (floor_div x 2) (floor_div z 2) else Nowhere
 
--- this many, by the cell where the step begins, where a step of dx columns and dz rows leads from one spot to the other, else none
+-- where dx columns and dz rows lead from one spot to the other, this count of the cell where the step begins, else 0
 abbrev pub by_step : ℤ → ℤ → (ℤ → ℤ → ℕ) → Spot → Spot → ℕ
 by_step dx dz count Nowhere q = 0
 by_step dx dz count (At x z) Nowhere = 0
@@ -34,7 +34,7 @@ by_step dx dz count (At x z) (At x' z') =
 unfoldable pub squares_at : Region → Region → ℤ → ℤ → ℕ
 squares_at finer active x z = count_by (λ squares. contains squares x z) (part_squares finer active)
 
--- how many triangles of an active region's squares go from one spot to the other: south, east and back across, and across, north and west
+-- how many triangles of a ring's squares go from one spot to the other: south, east and back; across, north and west
 unfoldable pub ring_edges : Region → Region → Spot → Spot → ℕ
 ring_edges finer active p q =
     let squares = squares_at finer active in
@@ -76,7 +76,8 @@ square_edges_from finer [] p q = 0
 square_edges_from finer (active ∷ coarser) p q =
     ring_edges finer active p q + square_edges_from active coarser (coarser_spot p) (coarser_spot q)
 
--- of the stitches of the regions from this level on: short edges clockwise round the region, and long edges the other way round its hole in the next coarser one
+-- of the stitches of the regions from this level on: short edges clockwise round a region, and long edges the other way
+-- round the hole that it leaves in the next coarser one
 abbrev pub stitch_edges_from : Region → List Region → Spot → Spot → ℕ
 stitch_edges_from active [] p q = 0
 stitch_edges_from active (next ∷ coarser) p q =
