@@ -126,8 +126,8 @@ fn index_in(b: i32, blocks: u32) -> Option<u32>
     Some(b as u32)
 }
 
-/// The block in column `bx` and row `by` of a level, if the store has it: if it has the level, and a cell of the block lies
-/// in the terrain.
+/// The block in column `bx` and row `by` of a level, if the store has it: if it has the level, and a cell of the block
+/// lies in the terrain.
 pub fn find_block(header: Header, level: u8, bx: i32, by: i32) -> Option<Place>
     requires { IsReadable header }
     ensures found { IfSome result (λ place. IsPlaceOf (head_of header) level bx by place) }

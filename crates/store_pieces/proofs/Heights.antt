@@ -29,29 +29,10 @@ use Rattle.store_model.specs.Store.{Levels, region_of, IsBlock, IsBlockOf}
 use Rattle.terrain_store.specs.Stores.{Stored}
 use Rattle.terrain_store.specs.Blocks.{IsStoredBlock}
 use Rattle.store_pieces.specs.Laws.{IsPieceOf, PiecesAreHeights, PiecesHaveNoFault}
-use Rattle.store_pieces.proofs.Codes.{OneList, WordHasNoFault, codes_same, coding_no_fault}
-use Rattle.store_pieces.proofs.Plain.{plain_size, plain_height_is}
+use Rattle.store_model.proofs.Outside.{level_fits}
+use Rattle.store_laws.proofs.Blocks.{OneList, WordHasNoFault, codes_same, coding_no_fault, plain_length, plain_no_fault}
+use Rattle.store_pieces.proofs.Plain.{plain_height_is}
 use Rattle.store_pieces.proofs.Regions.{CellOf, cell_of, outside_level, inside_level}
-
--- ---- heights have 16 bits
-chosen_fits : (t : Bool) (x : ℤ) → FitsSigned w16 x → FitsSigned w16 (cond t x (pos 0))
-chosen_fits true x h = h
-chosen_fits false x h = omega (arith, ints)
-
-height_fits : (terrain : Terrain) (x y : ℤ) → IsTerrain terrain → FitsSigned w16 (height_at terrain x y)
-unfolding height_at
-height_fits terrain (pos x) (pos y) sound =
-    chosen_fits (ltb x terrain.width && ltb y terrain.height) (get_or terrain.table (y * terrain.width + x) (pos 0))
-    (⊎_elim
-    (λ (inside : y * terrain.width + x < length terrain.table). sound.short_heights (y * terrain.width + x) (pos 0) inside)
-    (λ (past : length terrain.table ≤ y * terrain.width + x). rw (get_or_past terrain.table (y * terrain.width + x) (pos 0) past) (omega (arith, ints)))
-    (cases_lt (y * terrain.width + x) (length terrain.table)))
-height_fits terrain (pos x) (negsuc y) sound = omega (arith, ints)
-height_fits terrain (negsuc x) y sound = omega (arith, ints)
-
-level_fits : (terrain : Terrain) (level : ℕ) (i j : ℤ) → IsTerrain terrain → FitsSigned w16 (level_height terrain level i j)
-unfolding level_height
-level_fits terrain level i j sound = height_fits terrain (i *ℤ pos (2 ^ level)) (j *ℤ pos (2 ^ level)) sound
 
 -- ---- by the kind of a level
 plain_there : (head : Head) (heights : Levels) (level k : ℕ) (bytes : List ℕ) → level + 1 ≡ head.levels → IsBlock head heights level k bytes → bytes ≡ plain_bytes (heights level) (region_of head level k)
@@ -128,20 +109,13 @@ pieces_are_heights law one store (Words bytes) level bx by inside cells patch ou
     (λ out_of. beside_block law store (Words bytes) level bx by inside cells patch bytes.now i j p p.block.1 at out_of)
 
 -- ---- no piece is refused
-plain_no_fault : (cells : ℕ) (bytes : List ℕ) (fault : BlockFault) → length bytes ≡ 2 * cells → HasPlainFault cells bytes fault → ⊥
-plain_no_fault cells bytes (word.CutShort bit) e bad = (let few = bad.1 in omega arith)
-plain_no_fault cells bytes (word.LongForm bit) e bad = bad
-plain_no_fault cells bytes (word.TooWide bit) e bad = bad
-plain_no_fault cells bytes (word.BadPadding bit) e bad = bad
-plain_no_fault cells bytes (word.Excess n) e bad = (let some = bad.0 in let more = bad.1 in omega arith)
-
 pub pieces_have_no_fault : OneList → WordHasNoFault → PiecesHaveNoFault
 pieces_have_no_fault one none store Outside level bx by inside cells patch n fault p size bad = bad
 pieces_have_no_fault one none store (Plain bytes) level bx by inside cells patch n (BadBlock fault) p size bad =
     let s = p.block.1 in
     let heights = level_height store.terrain level in
     let is : bytes.now ≡ plain_bytes heights inside = plain_there store.head (level_height store.terrain) level s.k bytes.now p.block.0 s.stored.stands ∙ ap (plain_bytes heights) (sym s.cells) in
-    plain_no_fault (area inside) bytes.now fault (ap length is ∙ plain_size heights inside) bad
+    plain_no_fault (area inside) bytes.now fault (ap length is ∙ plain_length heights inside) bad
 pieces_have_no_fault one none store (Plain bytes) level bx by inside cells patch n (OutOfRange a b v) p size bad = bad
 pieces_have_no_fault one none store (Words bytes) level bx by inside cells patch n (BadBlock fault) p size bad =
     let w = word_block store level bx by inside bytes.now p.block.0 p.block.1 in

@@ -12,7 +12,7 @@ use Rattle.clip_regions.specs.Regions.{contains, columns, rows, area, numbers_fr
 use Rattle.terrain_model.specs.Tile.{signed_pair, raw_sample}
 use Rattle.store_model.specs.Blocks.{signed_bytes, plain_bytes}
 use Rattle.block_heights.specs.Pieces.{plain_height}
-use Rattle.store_pieces.proofs.Cells.{lies}
+use Rattle.store_reader.proofs.CellNumbers.{numbered}
 
 -- ---- a number of 16 bits and its two bytes
 signed_two : (a : ℤ) → length (signed_bytes a) ≡ 2
@@ -77,16 +77,6 @@ byte_at heights r a b t across down below =
     part_at (λ j. flat_map (λ i. signed_bytes (heights i j)) (numbers_from r.x0 (columns r))) (columns r * 2) r.y0 (rows r) b (a * 2 + t) (λ j. row_size heights r j) down inside
     ∙ part_at (λ i. signed_bytes (heights i (r.y0 +ℤ pos b))) 2 r.x0 (columns r) a t (λ i. signed_two (heights i (r.y0 +ℤ pos b))) across below
 
-pub plain_size : (heights : ℤ → ℤ → ℤ) (r : Region) → length (plain_bytes heights r) ≡ 2 * area r
-unfolding plain_bytes area
-plain_size heights r =
-    flat_even (λ j. flat_map (λ i. signed_bytes (heights i j)) (numbers_from r.x0 (columns r))) (columns r * 2) (numbers_from r.y0 (rows r)) (λ j. row_size heights r j)
-    ∙ ap (λ (n : ℕ). n * (columns r * 2)) (numbers_length r.y0 (rows r))
-    ∙ turned (columns r) (rows r)
-  where
-    turned : (c d : ℕ) → d * (c * 2) ≡ 2 * (c * d)
-    turned c d = grind arith
-
 -- ---- a height of the list
 sample_at : (heights : ℤ → ℤ → ℤ) (r : Region) (a b : ℕ) → FitsSigned w16 (heights (r.x0 +ℤ pos a) (r.y0 +ℤ pos b)) → a < columns r → b < rows r → raw_sample (plain_bytes heights r) (b * columns r + a) ≡ heights (r.x0 +ℤ pos a) (r.y0 +ℤ pos b)
 unfolding raw_sample
@@ -108,27 +98,10 @@ place_at bytes r a b =
     back : (x : ℤ) (n : ℕ) → x +ℤ pos n -ℤ x ≡ pos n
     back x n = omega (arith, ints)
 
-gap_is : (x y : ℤ) → x ≤ℤ y → y ≡ x +ℤ pos (int_gap x y)
-gap_is (pos x) (pos y) h = omega (arith, ints)
-gap_is (pos x) (negsuc y) h = absurd (omega (arith, ints))
-gap_is (negsuc x) (pos y) h = omega (arith, ints)
-gap_is (negsuc x) (negsuc y) h = omega (arith, ints)
-
-gap_less : (x y w : ℤ) → x ≤ℤ w → w ≤ℤ y → int_gap x w < int_gap x (y +ℤ pos 1)
-gap_less x y w h k =
-    let first = gap_is x w h in
-    let second = gap_is x (y +ℤ pos 1) (omega (arith, ints)) in
-    omega (arith, ints)
-
 pub plain_height_is : (heights : ℤ → ℤ → ℤ) (r : Region) (i j : ℤ) → ((a b : ℤ) → FitsSigned w16 (heights a b)) → contains r i j ≡ true → plain_height (plain_bytes heights r) r i j ≡ heights i j
-unfolding columns rows
 plain_height_is heights r i j fits inside =
-    let at = lies r i j inside in
-    let a = int_gap r.x0 i in
-    let b = int_gap r.y0 j in
-    let column : i ≡ r.x0 +ℤ pos a = gap_is r.x0 i at.west in
-    let row : j ≡ r.y0 +ℤ pos b = gap_is r.y0 j at.north in
-    let here : plain_height (plain_bytes heights r) r (r.x0 +ℤ pos a) (r.y0 +ℤ pos b) ≡ heights (r.x0 +ℤ pos a) (r.y0 +ℤ pos b) =
-    place_at (plain_bytes heights r) r a b
-    ∙ sample_at heights r a b (fits (r.x0 +ℤ pos a) (r.y0 +ℤ pos b)) (gap_less r.x0 r.x1 i at.west at.east) (gap_less r.y0 r.y1 j at.north at.south) in
-    subst (λ (y : ℤ). plain_height (plain_bytes heights r) r i y ≡ heights i y) (sym row) (subst (λ (x : ℤ). plain_height (plain_bytes heights r) r x (r.y0 +ℤ pos b) ≡ heights x (r.y0 +ℤ pos b)) (sym column) here)
+    let c = numbered r i j inside in
+    let here : plain_height (plain_bytes heights r) r (r.x0 +ℤ pos c.a) (r.y0 +ℤ pos c.b) ≡ heights (r.x0 +ℤ pos c.a) (r.y0 +ℤ pos c.b) =
+    place_at (plain_bytes heights r) r c.a c.b ∙ sample_at heights r c.a c.b (fits (r.x0 +ℤ pos c.a) (r.y0 +ℤ pos c.b)) c.across c.down in
+    subst (λ (y : ℤ). plain_height (plain_bytes heights r) r i y ≡ heights i y) (sym c.row_at)
+    (subst (λ (x : ℤ). plain_height (plain_bytes heights r) r x (r.y0 +ℤ pos c.b) ≡ heights x (r.y0 +ℤ pos c.b)) (sym c.column_at) here)

@@ -13,50 +13,13 @@ use Rattle.store_model.specs.Sizes.{cells_on, blocks_on, level_region, block_cou
 use Rattle.store_model.specs.Format.{Head}
 use Rattle.store_model.specs.Store.{region_of}
 use Rattle.store_index.specs.Places.{block_cells, IsBlockAt}
-use Rattle.store_pieces.proofs.Cells.{Lies, lies, lying}
-
--- ---- regions without cells
-gap_none : (a b : ℤ) → b ≤ℤ a → int_gap a b ≡ 0
-gap_none (pos a) (pos b) h = omega (arith, ints)
-gap_none (pos a) (negsuc b) h = omega (arith, ints)
-gap_none (negsuc a) (pos b) h = absurd (omega (arith, ints))
-gap_none (negsuc a) (negsuc b) h = omega (arith, ints)
-
-tested_lt : (a b : ℤ) → lt_z a b ≡ true → a <ℤ b
-tested_lt a b e = omega (arith, ints)
-
-either : (a b : Bool) → (a || b) ≡ true → (a ≡ true) ⊎ (b ≡ true)
-either true b e = inl refl
-either false b e = inr e
-
-none_empty : (r : Region) → is_empty r ≡ true → area r ≡ 0
-unfolding is_empty area columns rows
-none_empty r e =
-    ⊎_elim
-    (λ (h : lt_z r.x1 r.x0 ≡ true).
-    let l = tested_lt r.x1 r.x0 h in
-    let none : int_gap r.x0 (r.x1 +ℤ pos 1) ≡ 0 = gap_none r.x0 (r.x1 +ℤ pos 1) (omega (arith, ints)) in
-    ap (λ (n : ℕ). n * int_gap r.y0 (r.y1 +ℤ pos 1)) none ∙ omega arith)
-    (λ (h : lt_z r.y1 r.y0 ≡ true).
-    let l = tested_lt r.y1 r.y0 h in
-    let none : int_gap r.y0 (r.y1 +ℤ pos 1) ≡ 0 = gap_none r.y0 (r.y1 +ℤ pos 1) (omega (arith, ints)) in
-    ap (λ (n : ℕ). int_gap r.x0 (r.x1 +ℤ pos 1) * n) none ∙ omega arith)
-    (either (lt_z r.x1 r.x0) (lt_z r.y1 r.y0) e)
+use Rattle.clip_regions.proofs.Cells.{Lies, lies, lying}
+use Rattle.block_heights.proofs.Parts.{area_is, none_empty as no_product}
+use Rattle.store_reader.proofs.CellNumbers.{columns_is, rows_is}
 
 -- ---- cell k of a piece
-gap_is : (x y : ℤ) → x ≤ℤ y → y ≡ x +ℤ pos (int_gap x y)
-gap_is (pos x) (pos y) h = omega (arith, ints)
-gap_is (pos x) (negsuc y) h = absurd (omega (arith, ints))
-gap_is (negsuc x) (pos y) h = omega (arith, ints)
-gap_is (negsuc x) (negsuc y) h = omega (arith, ints)
-
-columns_is : (r : Region) → r.x0 ≤ℤ r.x1 → r.x1 +ℤ pos 1 ≡ r.x0 +ℤ pos (columns r)
-unfolding columns
-columns_is r h = gap_is r.x0 (r.x1 +ℤ pos 1) (omega (arith, ints))
-
-rows_is : (r : Region) → r.y0 ≤ℤ r.y1 → r.y1 +ℤ pos 1 ≡ r.y0 +ℤ pos (rows r)
-unfolding rows
-rows_is r h = gap_is r.y0 (r.y1 +ℤ pos 1) (omega (arith, ints))
+none_empty : (r : Region) → is_empty r ≡ true → area r ≡ 0
+none_empty r e = area_is r ∙ no_product r e
 
 cell_lies : (bx by : ℤ) (r : Region) (k : ℕ) → IsPartOf bx by r → k < area r → Lies r (column_of r k) (row_of r k)
 unfolding area

@@ -1,7 +1,7 @@
 //! A terrain in its packed store.
 //!
-//! A `Store` has the bytes of a store of either version, and stands for one terrain: clauses see the terrain, of which no
-//! table is kept. A `Shape` names that terrain with its number of levels to whoever works on it.
+//! A `Store` has the bytes of a store of either version, and stands for one terrain: clauses see the terrain, of which
+//! no table is kept. A `Shape` names that terrain with its number of levels to whoever works on it.
 #![tactic(auto)]
 
 mod packing;

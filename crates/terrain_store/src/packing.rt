@@ -30,8 +30,8 @@ pub fn pack(alloc: Global, grid: &Grid, levels: u8) -> Result<Store, NoMemory>
     keep(alloc, bytes, header, grid)
 }
 
-/// Packs a grid in `levels` levels, 1 to 12, by an odd step of 1 to 255 metres: the store is the canonical one of version 2,
-/// and stands for the restored terrain, whose heights lie within (`step` - 1) / 2 metres of the grid's.
+/// Packs a grid in `levels` levels, 1 to 12, by an odd step of 1 to 255 metres: the store is the canonical one of
+/// version 2, and stands for the restored terrain, whose heights lie within (`step` - 1) / 2 metres of the grid's.
 ///
 /// The bytes are read once, for the extremes of the restored terrain.
 pub fn pack_by(alloc: Global, grid: &Grid, levels: u8, step: u8) -> Result<Store, NoMemory>

@@ -16,13 +16,14 @@ use store_reader::{StoredHeights, read_heights};
 
 /// The store whose bytes are given, of either version, or the first fault of bytes that are no store.
 ///
-/// Each block is decoded and judged once. Where memory runs out the answer is `NoMemory`; at most two levels of heights are
-/// held at a time.
+/// Each block is decoded and judged once. Where memory runs out the answer is `NoMemory`; at most two levels of heights
+/// are held at a time.
 pub fn read_store(alloc: Global, bytes: Vec<u8>) -> Result<Store, StoreFault>
     // Ok comes exactly where the bytes are a store, which has its header and its terrain.
     ensures store { IfOk result (λ store. IsStored store) }
     ensures bytes { IfOk result (λ store. store.bytes ≡ bytes.items) }
-    ensures accepts { (head : Head) → (terrain : Terrain) → IsStore head terrain bytes.items → IsOkUnless result NoMemory }
+    ensures accepts { (head : Head) → (terrain : Terrain) → IsStore head terrain bytes.items
+        → IsOkUnless result NoMemory }
     ensures same { (head : Head) → (terrain : Terrain) → IsStore head terrain bytes.items
         → IfOk result (λ store. store ≡ record { head = head; terrain = terrain; bytes = bytes.items }) }
 

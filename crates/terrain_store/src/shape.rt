@@ -10,8 +10,8 @@ use store_reader::Header;
 
 /// The sides of a store's terrain, in samples, and its number of levels.
 ///
-/// It names the terrain: clauses see the terrain with its heights, and a running program the three numbers. It is made by
-/// `Store::shape` alone. Whoever is to name the same terrain keeps a `Snapshot` of it, which has no bytes.
+/// It names the terrain: clauses see the terrain with its heights, and a running program the three numbers. It is made
+/// by `Store::shape` alone. Whoever is to name the same terrain keeps a `Snapshot` of it, which has no bytes.
 #[derive(Drop)]
 pub struct Shape {
     width: u32,
@@ -37,7 +37,8 @@ impl Shape {
 
     /// The shape of a terrain with what its store's header says.
     pub(crate) fn new(header: Header, terrain: &Snapshot<Grid>) -> Shape
-        requires { HasSides (record { terrain = terrain.now.value; levels = header.levels }) header.width header.height header.levels }
+        requires { HasSides (record { terrain = terrain.now.value; levels = header.levels })
+            header.width header.height header.levels }
         ensures { result ≡ record { terrain = terrain.now.value; levels = header.levels } }
     {
         Shape {
