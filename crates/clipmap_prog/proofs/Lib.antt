@@ -2,6 +2,7 @@ pub mod Concluding
 pub mod Ends
 mod Examples
 pub mod Fetching
+pub mod Framed
 pub mod Lists
 pub mod Mosaics
 pub mod Readings

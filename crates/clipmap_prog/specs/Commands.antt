@@ -11,7 +11,7 @@ use Rattle.clipmap_prog.specs.Stores.{ByVerdict, Verdict}
 
 -- what a command does with these files, by the verdict on the file of its store
 abbrev pub command_outcome : Verdict → CommandView → Files → Outcome
-command_outcome verdict (Frame frame) files = frame_outcome frame files
+command_outcome verdict (Frame frame) files = frame_outcome verdict frame files
 command_outcome verdict (Info info) files = info_outcome verdict info files
 command_outcome verdict (Pack pack) files = pack_outcome pack files
 command_outcome verdict (PackBy pack) files = pack_by_outcome verdict pack files
@@ -27,7 +27,7 @@ outcome verdict words files = outcome_of verdict (command_of words) files
 
 -- the inputs of a command that may be a store
 abbrev pub store_inputs : CommandView → List (List ℕ)
-store_inputs (Frame frame) = []
+store_inputs (Frame frame) = frame.inputs
 store_inputs (Info info) = info.inputs
 store_inputs (Pack pack) = []
 store_inputs (PackBy pack) = pack.inputs

@@ -12,16 +12,16 @@ use Rattle.clipmap_prog.specs.declared.fault.FileFault.TheVariants as file
 use Rattle.clipmap_prog.specs.declared.fault.Fault.{Fault}
 use Rattle.clipmap_prog.specs.declared.fault.Fault.TheVariants as fault
 
--- why a command is refused: its words are no command, the form isn't built, a word is no tile's name, a file or the
--- tile in it is faulty, or the tiles make no terrain together
+-- why a command is refused: its words are no command, a word is no tile's name, a file or the tile in it is faulty, the
+-- tiles make no terrain together, a file is no store, or it has another number of levels than was asked for
 pub data Cause : Type 0 where
   Words : Cause
-  NotYet : Cause
   BadName : List ℕ → Cause
   File : List ℕ → FileFault → Cause
   Tile : List ℕ → TileFault → Cause
   Mosaic : MosaicFault → Cause
   Store : StoreFault → Cause
+  LevelsDiffer : ℕ → ℕ → Cause
 
 -- the line of a file of that name that can't be had
 abbrev pub file_line : List ℕ → FileFault → List ℕ
@@ -47,19 +47,19 @@ mosaic_line mosaic.NoMemory = []
 -- the line of a fault
 abbrev pub cause_line : Cause → List ℕ
 cause_line Words = codes "fault: words\n"
-cause_line NotYet = codes "fault: NotYet\n"
 cause_line (BadName word) = codes "fault: BadName " ++ (word ++ codes "\n")
 cause_line (File name fault) = file_line name fault
 cause_line (Tile name fault) = tile_line name fault
 cause_line (Mosaic fault) = mosaic_line fault
 cause_line (Store fault) = store_fault_line fault
+cause_line (LevelsDiffer stored asked) = codes "fault: LevelsDiffer " ++ (decimal stored ++ (codes " " ++ (decimal asked ++ codes "\n")))
 
 -- the cause that a fault of the program's stands for
 abbrev pub cause_of : Fault → Cause
 cause_of fault.Words = Words
-cause_of fault.NotYet = NotYet
 cause_of (fault.BadName word) = BadName word.now
 cause_of (fault.File name which) = File name.now which
 cause_of (fault.Tile name which) = Tile name.now which
 cause_of (fault.Mosaic which) = Mosaic which
 cause_of (fault.Store which) = Store which
+cause_of (fault.LevelsDiffer stored asked) = LevelsDiffer stored asked

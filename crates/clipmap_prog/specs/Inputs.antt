@@ -11,12 +11,11 @@ use Rattle.hgt_tiles.specs.TileView.{TileView, placed, tile_of_bytes}
 use Rattle.hgt_tiles.specs.declared.tiles.TileFault.TheVariants.{BadLength}
 use Rattle.mosaic.specs.Faults.{mosaic_fault}
 use Rattle.mosaic.specs.declared.fault.MosaicFault.{MosaicFault}
-use Rattle.clipmap_prog.specs.Faults.{Cause, NotYet, BadName, File, Tile, Mosaic}
+use Rattle.clipmap_prog.specs.Faults.{Cause, BadName, File, Tile, Mosaic}
 use Rattle.clipmap_prog.specs.declared.inputs.Inputs.{Inputs}
 use Rattle.clipmap_prog.specs.declared.tile_files.Named.{Named}
 use Rattle.clipmap_prog.specs.declared.fault.FileFault.TheVariants.{Absent, TooLong}
 use Rattle.clipmap_prog.specs.Reading.{Reading, unfetched, fetched, and_then, each_of}
-use Rattle.clipmap_prog.specs.Stores.{store_name}
 
 -- the most bytes that an HGT file may have
 abbrev pub hgt_limit : ℕ
@@ -91,14 +90,6 @@ named_reading files named = and_then (each_of (tile_reading files) named) (λ ti
 -- tiles by their names: all names are judged before any file is fetched
 abbrev pub tiles_reading : List (List ℕ) → Files → Reading InputsView
 tiles_reading names files = and_then (each_of name_reading names) (named_reading files)
-
--- the inputs of a command that draws: tiles, since drawing over a store isn't built yet
-abbrev pub inputs_by : List (List ℕ) → Files → Option (List ℕ) → Reading InputsView
-inputs_by names files (Some store) = unfetched (Err NotYet)
-inputs_by names files None = tiles_reading names files
-
-abbrev pub inputs_reading : List (List ℕ) → Files → Reading InputsView
-inputs_reading names files = inputs_by names files (store_name names)
 
 -- a name and its corner as contracts see them
 abbrev pub named_view : Named → NamedTile

@@ -28,8 +28,6 @@ pub(crate) enum FileFault {
 pub(crate) enum Fault<'a> {
     /// The words are no command.
     Words,
-    /// The form of the command isn't built yet.
-    NotYet,
     /// The word is no name of an HGT tile.
     BadName(&'a str),
     /// The file of that name can't be had.
@@ -40,6 +38,13 @@ pub(crate) enum Fault<'a> {
     Mosaic(MosaicFault),
     /// The file is no store.
     Store(StoreFault),
+    /// The store has another number of levels than was asked for.
+    LevelsDiffer {
+        /// How many levels it has.
+        stored: u8,
+        /// How many were asked for.
+        asked: u8,
+    },
 }
 
 /// The line of a file of that name that can't be had.
@@ -88,11 +93,13 @@ pub(crate) fn fault_line(alloc: Global, fault: Fault<'_>) -> Result<String, Allo
 {
     match fault {
         Fault::Words => format!(in alloc; "fault: words\n"),
-        Fault::NotYet => format!(in alloc; "fault: NotYet\n"),
         Fault::BadName(word) => format!(in alloc; "fault: BadName {word}\n"),
         Fault::File(name, fault) => file_line(alloc, name, fault),
         Fault::Tile(name, fault) => tile_line(alloc, name, fault),
         Fault::Mosaic(fault) => mosaic_line(alloc, fault),
         Fault::Store(fault) => store_fault_line(alloc, fault),
+        Fault::LevelsDiffer { stored, asked } => {
+            format!(in alloc; "fault: LevelsDiffer {stored} {asked}\n")
+        }
     }
 }

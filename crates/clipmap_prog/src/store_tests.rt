@@ -138,15 +138,15 @@ fn packs_a_tile(rt: HostRuntime) {
             output: written,
             file,
         } = left;
-        assert_eq!(rt; status, 0, "{bytes}");
-        assert!(rt; written.as_slice() == output.as_bytes(), "{bytes}");
+        assert_eq!(rt; status, 0, "{output}");
+        assert!(rt; written.as_slice() == output.as_bytes(), "{output}");
         let Some(file) = file else {
             panic!(rt; "no file");
         };
         let Ok(found) = hex(alloc, file.as_slice()) else {
             panic!(rt; "no memory");
         };
-        assert_eq!(rt; found.as_str(), bytes);
+        assert!(rt; found.as_str() == bytes, "{output}");
     }
 }
 
@@ -371,6 +371,35 @@ fn refused_stores(rt: HostRuntime) {
     }
 }
 
+/// A frame over a store by the step 7 of the tile with 1000 in the middle: the height that comes back is 1001.
+#[test]
+fn draws_over_a_store(rt: HostRuntime) {
+    let store = [
+        0x47, 0x43, 0x54, 0x32, 0, 0, 0, 3, 0, 0, 0, 3, 2, 7, 0, 8, 0, 0, 0, 0, 0, 0, 0, 0, 0, 6,
+        0x50, 0, 0xff, 0x78, 0, 0u8,
+    ];
+    let files = [("o.gct", store.as_slice())];
+    let words = ["frame", "4", "2", "1", "1", "o", "o.gct"];
+    let Ok(left) = run(&rt, &words, &files) else {
+        panic!(rt; "no memory");
+    };
+    let Some(file) = file_of(left) else {
+        panic!(rt; "no file");
+    };
+    let vertices = file
+        .as_slice()
+        .split(|byte| *byte == b'\n')
+        .filter(|line| line.starts_with(b"v ".as_slice()));
+    assert!(rt; vertices.skip(112).next() == Some(b"v 1 1001.00000 1".as_slice()));
+    let words = ["frame", "4", "3", "1", "1", "o", "o.gct"];
+    let Ok(left) = run(&rt, &words, &files) else {
+        panic!(rt; "no memory");
+    };
+    assert_eq!(rt; left.status, 2);
+    assert!(rt; left.output.as_slice() == b"fault: LevelsDiffer 2 3\n".as_slice());
+    assert!(rt; left.file.is_none());
+}
+
 /// Calls that fail: what was put or written before stands.
 #[test]
 fn failing_calls_of_stores(rt: HostRuntime) {
@@ -423,9 +452,12 @@ fn random_heights(alloc: Global) -> Option<Grid> {
     }
 }
 
-/// The greatest distance in metres of the heights in two exact stores of one level: their bytes are the header, and then
-/// lengths and heights of two bytes each, at the same places.
+/// The greatest distance in metres of the heights in two exact stores of one level and one size. Behind the first byte
+/// they are pairs of bytes: of the header and of lengths, which are the same in both, and of heights.
 fn farthest(first: &[u8], second: &[u8]) -> i32 {
+    let ([_, first @ ..], [_, second @ ..]) = (first, second) else {
+        return 0;
+    };
     let mut most = 0;
     for (one, other) in first.chunks(2).zip(second.chunks(2)) {
         let ([a, b], [c, d]) = (one, other) else {
@@ -468,7 +500,7 @@ fn packs_and_reads_back(rt: HostRuntime) {
             assert_eq!(rt; (read.grid.width(), read.grid.height()), (100, 67));
             let back = canonical_bytes(alloc, &read.grid, 1).expect(&rt, "memory");
             assert_eq!(rt; back.len(), flat.len());
-            let most = farthest(&flat.as_slice()[13..], &back.as_slice()[13..]);
+            let most = farthest(flat.as_slice(), back.as_slice());
             assert!(rt; most <= half, "{word} {step} {most}");
         }
     }

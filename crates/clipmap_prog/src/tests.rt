@@ -169,7 +169,7 @@ fn refused_inputs(rt: HostRuntime) {
             &NINE[..17],
             "fault: BadName N90E000.hgt\n",
         ),
-        ("1", "tile.GCT", &NINE[..17], "fault: NotYet\n"),
+        ("1", "tile.GCT", &NINE[..17], "fault: Absent tile.GCT\n"),
         (
             "1",
             "N90E000.hgt",
