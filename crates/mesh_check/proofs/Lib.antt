@@ -1,0 +1,5 @@
+mod Counts
+mod EdgeCounts
+mod Fronts
+mod Pairs
+mod Verdicts

@@ -1,0 +1,2 @@
+//! Verdicts on small meshes.
+mod small;
