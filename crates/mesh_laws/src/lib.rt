@@ -9,8 +9,9 @@ mod laws;
 mod ring;
 
 pub use laws::{
-    actives_are_in_reach, ends_are_active, heights_are_small, holes_are_in_regions,
+    actives_are_in_reach, borders_agree, ends_are_active, heights_are_small, holes_are_in_regions,
     meshes_are_small, parts_have_ring_squares, ring_parts_are_square_parts,
-    ring_stitches_are_stitch_parts, rings_are_linked, rings_have_rows,
+    ring_stitches_are_stitch_parts, rings_are_linked, rings_have_rows, squares_cover,
+    stitches_are_flat,
 };
 pub use ring::Ring;
