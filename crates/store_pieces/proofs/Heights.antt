@@ -1,28 +1,20 @@
 -- A piece of a block of a store, decoded.
-use Rattle.std.proofs.Common.{◌≡◌, ◌⊎◌, Bool, true, false, ◌&&◌, cond, eqb, ltb, ℕ, suc, ◌+◌, ◌-◌, ◌*◌, ◌^◌, ◌<◌, ◌≤◌, ℤ, pos, negsuc, ◌+ℤ◌, ◌*ℤ◌, FitsSigned, List, length, get_or, refl, ap, sym, ◌∙◌, subst, ⊎_elim, arith, eq-eqb}
-use Rattle.std.specs.Int.{w16}
-use Rattle.std.proofs.lemmas.Int.{ints}
-use Rattle.std.proofs.lemmas.Bool.{cases_Bool, cases_lt}
+use Rattle.std.proofs.Common.{◌≡◌, Bool, true, false, cond, eqb, ℕ, ◌+◌, ◌<◌, ℤ, pos, ◌+ℤ◌, ◌*ℤ◌, List, length, ap, sym, ◌∙◌, subst, ⊎_elim, arith, eq-eqb}
+use Rattle.std.proofs.lemmas.Bool.{cases_Bool}
 use Rattle.std.proofs.lemmas.Bool.Decides.{nat_tests}
-use Rattle.std.proofs.lemmas.List.{get_or_past}
 use Rattle.clip_regions.specs.declared.region.Region.{Region}
 use Rattle.clip_regions.specs.Regions.{contains, area}
-use Rattle.terrain_model.specs.Terrain.{Terrain, IsTerrain, height_at, level_height}
+use Rattle.terrain_model.specs.Terrain.{IsTerrain, level_height}
 use Rattle.four_point.specs.declared.patch.Patch.{Patch}
 use Rattle.four_point.specs.Patches.{patch_height}
 use Rattle.four_point.specs.Prediction.{prediction}
 use Rattle.four_point.specs.Steps.{value_of, brought, IsNear}
-use Rattle.rice_residuals.specs.declared.fault.BlockFault.{BlockFault}
-use Rattle.rice_residuals.specs.declared.fault.BlockFault.TheVariants as word
 use Rattle.block_heights.specs.declared.block.Kind.{Kind}
 use Rattle.block_heights.specs.declared.block.Kind.TheVariants.{Outside, Plain, Words}
-use Rattle.block_heights.specs.declared.block.PieceFault.{PieceFault}
 use Rattle.block_heights.specs.declared.block.PieceFault.TheVariants.{BadBlock, OutOfRange}
-use Rattle.block_heights.specs.Pieces.{within, column_of, row_of, plain_height, coded_height, IsPieceUpTo}
-use Rattle.block_heights.specs.Decoded.{HasHeights, HasPieceFault}
+use Rattle.block_heights.specs.Pieces.{within, column_of, row_of, plain_height, coded_height}
 use Rattle.store_model.specs.Sizes.{level_region}
 use Rattle.store_model.specs.Blocks.{plain_bytes, IsCoding, IsWordBlock}
-use Rattle.store_model.specs.Faults.{HasPlainFault}
 use Rattle.store_model.specs.Laws.{LevelOutside}
 use Rattle.store_model.specs.Format.{Head}
 use Rattle.store_model.specs.Store.{Levels, region_of, IsBlock, IsBlockOf}

@@ -1,15 +1,13 @@
 -- The cells of a piece, of a block and of a level.
-use Rattle.std.proofs.Common.{◌≡◌, ◌⊎◌, inl, inr, Bool, true, false, ◌&&◌, ◌||◌, min, ℕ, ◌+◌, ◌-◌, ◌*◌, ◌/◌, ◌%◌, ◌<◌, ◌≤◌, ℤ, pos, negsuc, ◌+ℤ◌, ◌-ℤ◌, ◌*ℤ◌, ◌<ℤ◌, ◌≤ℤ◌, refl, ap, sym, ◌∙◌, subst, ⊎_elim, arith}
-use Rattle.std.specs.Int.{int_gap}
+use Rattle.std.proofs.Common.{◌≡◌, true, false, ℕ, ◌*◌, ◌/◌, ◌%◌, ◌<◌, ℤ, pos, sym, ◌∙◌, ⊎_elim, arith}
 use Rattle.std.proofs.lemmas.Int.{ints}
 use Rattle.std.proofs.lemmas.Bool.{cases_Bool}
 use Rattle.std.proofs.lemmas.Nat.{mod_below, div_below}
-use lib.Signed.{le_z, lt_z}
 use Rattle.clip_regions.specs.declared.region.Region.{Region}
 use Rattle.clip_regions.specs.Regions.{contains, is_empty, columns, rows, area}
 use Rattle.block_heights.specs.Decoded.{IsPart, IsPartOf}
 use Rattle.block_heights.specs.Pieces.{column_of, row_of}
-use Rattle.store_model.specs.Sizes.{cells_on, blocks_on, level_region, block_count, block_column, block_row, cells_in_block, block_region}
+use Rattle.store_model.specs.Sizes.{level_region, block_column, block_row, cells_in_block, block_region}
 use Rattle.store_model.specs.Format.{Head}
 use Rattle.store_model.specs.Store.{region_of}
 use Rattle.store_index.specs.Places.{block_cells, IsBlockAt}
