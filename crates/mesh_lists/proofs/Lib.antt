@@ -2,3 +2,4 @@ mod Cuts
 mod Heads
 mod Bodies
 mod Faces
+mod Digits

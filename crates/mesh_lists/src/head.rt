@@ -9,9 +9,9 @@ ghost use Rattle.mesh_lists.specs.Says.{active_words, corner_of, corners_of, fra
 
 use crate::leading::{Grammar, append, next_said};
 use crate::lists::ListsFault;
+use crate::number::natural;
 use crate::words::{behind, behind_first, coordinate_of, count_of, next_word, one_number};
 use clip_regions::Region;
-use number_words::natural_bytes;
 use std::alloc::Global;
 
 /// How many levels a text has at most.
@@ -141,7 +141,7 @@ fn level_words(rest: &[u8], level: u8) -> Option<Region>
     ensures within { IfSome result (IsWithin (2 ^ 24)) }
 {
     let number = next_word(rest)?;
-    natural_bytes(number.front, u64::from(level), u64::from(level))?;
+    natural(number.front, u64::from(level), u64::from(level))?;
     active_of(number.rest)
 }
 

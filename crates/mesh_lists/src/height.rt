@@ -5,7 +5,7 @@ ghost use Rattle.mesh_lists.specs.Lines.{parts_at};
 ghost use Rattle.mesh_lists.specs.Says.{five_of, height_of, size_of};
 
 use crate::cut::{first_part, next_part};
-use number_words::natural_bytes;
+use crate::number::natural;
 
 /// The greatest size of a height, in metres.
 const METRES: u64 = 32_768;
@@ -21,7 +21,7 @@ fn five_of(digits: &[u8]) -> Option<u32>
 {
     match digits {
         [a, b, c, d, e] => {
-            let number = natural_bytes(&[b'1', *a, *b, *c, *d, *e], 100_000, 199_999)?;
+            let number = natural(&[b'1', *a, *b, *c, *d, *e], 100_000, 199_999)?;
             Some(number as u32 - 100_000)
         }
         _ => None,
@@ -39,7 +39,7 @@ fn size_of(word: &[u8]) -> Option<u32>
     if next_part(digits.rest, b'.').is_some() {
         return None;
     }
-    let metres = natural_bytes(metres.front, 0, METRES)? as u32;
+    let metres = natural(metres.front, 0, METRES)? as u32;
     let number = five_of(digits.front)?;
     let size = 32 * metres + number / 3125;
     if number % 3125 == 0 && size <= SIZE_LIMIT {

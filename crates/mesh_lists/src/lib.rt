@@ -10,6 +10,7 @@ mod head;
 mod height;
 mod leading;
 mod lists;
+mod number;
 mod words;
 
 pub use lists::{ListsFault, TextLists, text_lists};

@@ -7,7 +7,7 @@ ghost use Rattle.number_words.specs.Numbers.{natural_of};
 ghost use Rattle.mesh_lists.specs.Says.{behind, coordinate_of, count_of, one_number};
 
 use crate::cut::{Cut, first_part, next_part};
-use number_words::{natural_bytes, whole_bytes};
+use crate::number::{natural, whole};
 
 /// The greatest coordinate; the least one is its negative.
 const COORDINATE_LIMIT: u32 = 1 << 24;
@@ -59,7 +59,7 @@ pub(crate) fn one_number(rest: &[u8], low: u64, high: u64) -> Option<u64>
 {
     let word = next_word(rest)?;
     match next_word(word.rest) {
-        None => natural_bytes(word.front, low, high),
+        None => natural(word.front, low, high),
         Some(_) => None,
     }
 }
@@ -68,7 +68,7 @@ pub(crate) fn one_number(rest: &[u8], low: u64, high: u64) -> Option<u64>
 pub(crate) fn count_of(word: &[u8]) -> Option<u64>
     ensures value { result ≡ count_of word.now }
 {
-    natural_bytes(word, 0, u64::MAX)
+    natural(word, 0, u64::MAX)
 }
 
 /// A coordinate, in samples.
@@ -77,7 +77,7 @@ pub(crate) fn coordinate_of(word: &[u8]) -> Option<i32>
     ensures low { IfSome result (λ n. neg_ℤ (pos (2 ^ 24)) ≤ℤ n) }
     ensures high { IfSome result (λ n. n ≤ℤ pos (2 ^ 24)) }
 {
-    whole_bytes(word, COORDINATE_LIMIT)
+    whole(word, COORDINATE_LIMIT)
 }
 
 /// The number of a vertex of so many, counted from 1.
@@ -86,6 +86,6 @@ pub(crate) fn number_of(word: &[u8], count: u32) -> Option<u32>
     ensures low { IfSome result (λ n. 1 ≤ n) }
     ensures high { IfSome result (λ n. n ≤ count) }
 {
-    let number = natural_bytes(word, 1, u64::from(count))?;
+    let number = natural(word, 1, u64::from(count))?;
     Some(number as u32)
 }

@@ -1,0 +1,10 @@
+use Rattle.std.proofs.Common.{◌≡◌, ◌<◌, take}
+use Rattle.std.specs.Str.Parse.{AllDigits, digits_value}
+use Rattle.mesh_lists.proofs.number.short_number.Given as goal
+
+abbrev pub invariant-loop-b : goal.invariant-loop-b
+invariant-loop-b l = record {
+  value : l.number ≡ digits_value 10 (take l.b-index l.word);
+  digits : AllDigits 10 (take l.b-index l.word);
+  small : l.number < 1000000000;
+}
