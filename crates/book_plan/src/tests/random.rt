@@ -1,0 +1,132 @@
+//! The answers of random scripts beside those of the plain program.
+
+ghost use Rattle.std.specs.Prelude.{◌<◌};
+ghost use Rattle.plan_model.specs.Limits.{IsSize, IsLevelCount};
+
+use crate::BookPlan;
+use crate::tests::scripts::take;
+use plan_model::{Entry, Event};
+use plan_plain::{PlainAsked, PlainState, are_asked, run};
+use std::alloc::{AllocError, Global};
+use std::process::Abort;
+use std::test::Fail;
+
+// The next number of a generator.
+fn next(seed: u64) -> u64 {
+    seed.wrapping_mul(6364136223846793005)
+        .wrapping_add(1442695040888963407)
+}
+
+// A number below n, of a seed.
+fn below(seed: u64, n: u32) -> u32
+    requires { 0 < n }
+    ensures { result < n }
+{
+    ((seed >> 33) % u64::from(n)) as u32
+}
+
+// A coordinate: mostly near the corner, and sometimes anywhere within the limits.
+fn coordinate(seed: u64) -> i32 {
+    if below(next(seed), 6) == 0 {
+        return below(seed, 8388609) as i32 - 4194304;
+    }
+    below(seed, 81) as i32 - 40
+}
+
+// An altitude: mostly 0, and sometimes high.
+fn altitude(seed: u64) -> u32 {
+    if below(next(seed), 2) == 0 {
+        return 0;
+    }
+    below(seed, 300)
+}
+
+// A move of a seed.
+fn moved(seed: u64) -> Event {
+    Event::Move {
+        x: coordinate(seed),
+        y: coordinate(next(next(seed))),
+        a: altitude(next(next(next(seed)))),
+    }
+}
+
+// An event of a seed.
+fn event(seed: u64, levels: u8) -> Event
+    requires { IsLevelCount levels }
+{
+    match below(seed, 100) {
+        0 => moved(next(seed)),
+        1 => Event::Begin,
+        2..6 => Event::End,
+        6..50 => Event::Claim,
+        50..94 => Event::Finish,
+        _ => Event::Publish {
+            level: below(next(seed), u32::from(levels)) as u8,
+        },
+    }
+}
+
+// So many events of a seed.
+fn events(alloc: Global, levels: u8, seed: u64, count: u32) -> Result<Vec<PlainAsked>, AllocError>
+    requires { IsLevelCount levels }
+{
+    let mut out = Vec::new(alloc);
+    let mut seed = seed;
+    'made: for _ in 0..count {
+        seed = next(seed);
+        let pass = below(next(seed), 16) as u8;
+        out.push(PlainAsked {
+            pass,
+            event: event(seed, levels),
+        })?;
+    }
+    Ok(out)
+}
+
+// Takes the events of a history, and compares each answer.
+fn follow(rt: &impl Abort, book: &mut BookPlan, history: &[Entry]) {
+    for entry in history {
+        let answer = take(rt, book, entry.pass, entry.event);
+        assert_eq!(rt; answer, entry.answer);
+    }
+}
+
+// Takes so many events, and compares each answer with the plain program's.
+fn compare(
+    rt: &impl Abort,
+    alloc: Global,
+    k: u8,
+    levels: u8,
+    seed: u64,
+    count: u32,
+) -> Result<(), Fail>
+    requires k { IsSize k }
+    requires levels { IsLevelCount levels }
+{
+    let events = events(alloc, levels, seed, count)?;
+    assert!(rt; events.len() < 1000000 && are_asked(levels, events.as_slice()));
+    let state = PlainState::start(alloc, k, levels)?;
+    let left = run(alloc, state, events.as_slice())?;
+    let Ok(mut book) = BookPlan::start(alloc, k, levels) else {
+        return Err("no memory".into());
+    };
+    follow(rt, &mut book, left.history());
+    Ok(())
+}
+
+#[test]
+fn one_level(rt: HostRuntime) -> Result<(), Fail> {
+    compare(&rt, rt.alloc(), 4, 1, 1, 10000)?;
+    compare(&rt, rt.alloc(), 5, 1, 2, 2000)
+}
+
+#[test]
+fn some_levels(rt: HostRuntime) -> Result<(), Fail> {
+    compare(&rt, rt.alloc(), 4, 3, 3, 5000)?;
+    compare(&rt, rt.alloc(), 6, 2, 4, 500)
+}
+
+#[test]
+fn twelve_levels(rt: HostRuntime) -> Result<(), Fail> {
+    compare(&rt, rt.alloc(), 4, 12, 5, 3000)
+}
