@@ -1,0 +1,7 @@
+mod Words
+mod Heights
+mod Texts
+mod Said
+mod Frames
+mod Selves
+mod Meshes
