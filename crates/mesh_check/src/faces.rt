@@ -39,7 +39,8 @@ fn is_mean(p: i32, m: i32, q: i32) -> bool
 
 // Whether m's position is the mean of those of p and q.
 fn is_between(p: &Vertex, m: &Vertex, q: &Vertex) -> bool
-    ensures value { result ≡ (int_eq (pos 2 *ℤ m.now.x) (p.now.x +ℤ q.now.x) && int_eq (pos 2 *ℤ m.now.z) (p.now.z +ℤ q.now.z)) }
+    ensures value { result
+        ≡ (int_eq (pos 2 *ℤ m.now.x) (p.now.x +ℤ q.now.x) && int_eq (pos 2 *ℤ m.now.z) (p.now.z +ℤ q.now.z)) }
 {
     is_mean(p.x, m.x, q.x) && is_mean(p.z, m.z, q.z)
 }

@@ -34,7 +34,8 @@ pub(crate) fn first_run(keys: &[u64]) -> Run
     ensures few { result.there + result.back ≤ length keys.now }
     ensures others { (k : ℕ) → 2 * result.pair + 1 < k →
         count_by (λ key. key == k) (drop (result.there + result.back) keys.now) ≡ count_by (λ key. key == k) keys.now }
-    ensures above { (k : ℕ) → result.there + result.back ≤ k → k < length keys.now → 2 * result.pair + 1 < slice_index keys.now k }
+    ensures above { (k : ℕ) → result.there + result.back ≤ k → k < length keys.now
+        → 2 * result.pair + 1 < slice_index keys.now k }
 {
     let pair = keys[0] / 2;
     let mut there = 0;
@@ -74,22 +75,26 @@ fn are_within(r: &Region, p: &Vertex, q: &Vertex) -> bool
 
 // Whether both vertices have the column of the west side or of the east side.
 fn are_in_column(r: &Region, p: &Vertex, q: &Vertex) -> bool
-    ensures value { result ≡ ((int_eq p.now.x r.now.x0 && int_eq q.now.x r.now.x0) || (int_eq p.now.x r.now.x1 && int_eq q.now.x r.now.x1)) }
+    ensures value { result ≡ ((int_eq p.now.x r.now.x0 && int_eq q.now.x r.now.x0)
+        || (int_eq p.now.x r.now.x1 && int_eq q.now.x r.now.x1)) }
 {
     are_on_one(p.x, q.x, r.x0, r.x1)
 }
 
 // Whether both vertices have the row of the north side or of the south side.
 fn are_in_row(r: &Region, p: &Vertex, q: &Vertex) -> bool
-    ensures value { result ≡ ((int_eq p.now.z r.now.y0 && int_eq q.now.z r.now.y0) || (int_eq p.now.z r.now.y1 && int_eq q.now.z r.now.y1)) }
+    ensures value { result ≡ ((int_eq p.now.z r.now.y0 && int_eq q.now.z r.now.y0)
+        || (int_eq p.now.z r.now.y1 && int_eq q.now.z r.now.y1)) }
 {
     are_on_one(p.z, q.z, r.y0, r.y1)
 }
 
 // Whether both vertices have the column or the row of one side.
 fn are_on_line(r: &Region, p: &Vertex, q: &Vertex) -> bool
-    ensures value { result ≡ (((int_eq p.now.x r.now.x0 && int_eq q.now.x r.now.x0) || (int_eq p.now.x r.now.x1 && int_eq q.now.x r.now.x1))
-        || ((int_eq p.now.z r.now.y0 && int_eq q.now.z r.now.y0) || (int_eq p.now.z r.now.y1 && int_eq q.now.z r.now.y1))) }
+    ensures value { result ≡ (((int_eq p.now.x r.now.x0 && int_eq q.now.x r.now.x0)
+        || (int_eq p.now.x r.now.x1 && int_eq q.now.x r.now.x1))
+        || ((int_eq p.now.z r.now.y0 && int_eq q.now.z r.now.y0)
+        || (int_eq p.now.z r.now.y1 && int_eq q.now.z r.now.y1))) }
 {
     are_in_column(r, p, q) || are_in_row(r, p, q)
 }
@@ -131,7 +136,8 @@ fn is_closed(places: Places<'_>, run: Run) -> bool
     requires first { run.pair / 2 ^ 32 < length places.vertices.now }
     requires second { run.pair % 2 ^ 32 < length places.vertices.now }
     requires few { run.there + run.back < 2 ^ 32 }
-    ensures value { result ≡ is_closed_by run.there run.back (on_side places.entry.border places.entry.vertices.now run.pair) }
+    ensures value { result
+        ≡ is_closed_by run.there run.back (on_side places.entry.border places.entry.vertices.now run.pair) }
 {
     let p = &places.vertices[(run.pair / PLACES) as usize];
     let q = &places.vertices[(run.pair % PLACES) as usize];
@@ -143,9 +149,12 @@ pub(crate) fn first_open(places: Places<'_>, keys: &[u64]) -> Option<Run>
     requires few { length keys.now < 2 ^ 32 }
     requires sorted { IsNonDecreasing keys.now }
     requires ends { All (IsEdgeOf (length places.vertices.now)) keys.now }
-    ensures none { IfNone result ((pair : ℕ) → IsTrue (is_closed_pair places.entry.border places.entry.vertices.now keys.now pair)) }
-    ensures before { IfSome result (λ run. (pair : ℕ) → pair < run.pair → IsTrue (is_closed_pair places.entry.border places.entry.vertices.now keys.now pair)) }
-    ensures open { IfSome result (λ run. is_closed_pair places.entry.border places.entry.vertices.now keys.now run.pair ≡ false) }
+    ensures none { IfNone result ((pair : ℕ)
+        → IsTrue (is_closed_pair places.entry.border places.entry.vertices.now keys.now pair)) }
+    ensures before { IfSome result (λ run. (pair : ℕ) → pair < run.pair
+        → IsTrue (is_closed_pair places.entry.border places.entry.vertices.now keys.now pair)) }
+    ensures open { IfSome result
+        (λ run. is_closed_pair places.entry.border places.entry.vertices.now keys.now run.pair ≡ false) }
     ensures there { IfSome result (λ run. run.there ≡ count_by (λ key. key == 2 * run.pair) keys.now) }
     ensures back { IfSome result (λ run. run.back ≡ count_by (λ key. key == 2 * run.pair + 1) keys.now) }
     ensures few { IfSome result (λ run. run.there + run.back ≤ length keys.now) }

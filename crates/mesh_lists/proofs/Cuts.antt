@@ -4,6 +4,8 @@ use Rattle.std.specs.List.{slice_split, onto_first, position_or_len}
 use Rattle.std.proofs.lemmas.List.Sums.{position_or_len_is}
 use Rattle.std.proofs.lemmas.List.{length-take, drop-drop, take_all, drop_all}
 use Rattle.std.proofs.lemmas.Slice.{between_to_end}
+use Rattle.std.proofs.lemmas.Bool.{false_from_ne_true}
+use Rattle.memchr.specs.Find.{NoneBefore, Nowhere, Passes, is_byte}
 use Rattle.std.proofs.lemmas.Bool.Decides.{Decides-eqb}
 use Rattle.mesh_lists.specs.Lines.{all_but_last, last_part, whole_lines, cut_line, parts_at, parts_after}
 
@@ -148,3 +150,15 @@ some_left text some =
     let p : ℕ → Bool = λ b. nat_eq b 10 in
     let n = position_or_len p text in
     some_by p text (take n text) (drop n text) (parts_cut p text) (omega (arith, length-take n text, length-drop n text))
+
+-- a search that finds a byte finds its first place
+pub found_byte : (text : List ℕ) (byte i : ℕ) → NoneBefore (Passes (is_byte byte) text) 0 (length text) i × Passes (is_byte byte) text i → i ≡ position_or_len (λ b. nat_eq b byte) text
+found_byte text byte i found =
+    sym (position_or_len_is (λ b. nat_eq b byte) text i 0 (let high = found.0.high in omega arith)
+    (λ k h. false_from_ne_true (nat_eq (get_or text k 0) byte) (found.0.before k (omega arith) h)) (λ _. found.1))
+
+-- and one that doesn't finds none
+pub no_byte : (text : List ℕ) (byte : ℕ) → Nowhere (Passes (is_byte byte) text) 0 (length text) → length text ≡ position_or_len (λ b. nat_eq b byte) text
+no_byte text byte none =
+    sym (position_or_len_is (λ b. nat_eq b byte) text (length text) 0 (omega arith)
+    (λ k h. false_from_ne_true (nat_eq (get_or text k 0) byte) (none k (omega arith) h)) (λ (h : length text < length text). absurd (omega arith)))

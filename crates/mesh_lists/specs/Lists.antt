@@ -104,6 +104,10 @@ bad_at number (Err line) = Err line
 unfoldable pub ended : ℕ → List (List ℕ) → List ℕ → Result Lists ℕ → Result Lists ℕ
 ended before lines rest lists = if length rest == 0 then lists else bad_at (before + length lines + 1) lists
 
+-- the lists of a text by the text behind its head of so many lines
+abbrev pub lists_behind : ℕ → Region → List ℕ → Result Lists ℕ
+lists_behind head border text = ended head (whole_lines text) (cut_line text) (body_lists head border (whole_lines text))
+
 -- the lists of a text
 unfoldable pub lists_of_text : List ℕ → Result Lists ℕ
 lists_of_text text = ended 0 (whole_lines text) (cut_line text) (lists_of_lines (whole_lines text))

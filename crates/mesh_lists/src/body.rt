@@ -1,8 +1,8 @@
 //! The lines of vertices and of triangles.
 
 ghost use Rattle.std.specs.Prelude.{◌≡◌, ◌+◌, ◌<◌, ◌≤◌, ◌-◌, ◌∷◌, [], ◌^◌, IfOk, IfSome, MatchResult, Ok, length};
-ghost use Rattle.mesh_lists.specs.Lines.{cut_line, parts_after, whole_lines};
-ghost use Rattle.mesh_lists.specs.Lists.{IsFace, IsNear, IsStop, body_lists, ended};
+ghost use Rattle.mesh_lists.specs.Lines.{parts_after};
+ghost use Rattle.mesh_lists.specs.Lists.{IsFace, IsNear, IsStop, lists_behind};
 ghost use Rattle.mesh_lists.specs.Says.{are_apart, triangle_of, triangle_words, vertex_of, vertex_words};
 
 use crate::head::Head;
@@ -98,9 +98,8 @@ impl Grammar<[u32; 3]> for TriangleLine {
 /// The lists of the text behind a head, or the first bad line.
 pub(crate) fn read_body(alloc: Global, head: Head<'_>) -> Result<TextLists, ListsFault>
     requires small { length head.text.now + head.lines ≤ 2 ^ 28 }
-    ensures lists { MatchResult result
-        (λ lists. ended head.entry.lines (whole_lines head.entry.text.now) (cut_line head.entry.text.now) (body_lists head.entry.lines head.entry.border (whole_lines head.entry.text.now)) ≡ Ok lists)
-        (IsStop (ended head.entry.lines (whole_lines head.entry.text.now) (cut_line head.entry.text.now) (body_lists head.entry.lines head.entry.border (whole_lines head.entry.text.now)))) }
+    ensures lists { let whole = lists_behind head.entry.lines head.entry.border head.entry.text.now in
+        MatchResult result (λ lists. whole ≡ Ok lists) (IsStop whole) }
 {
     let vertices = read_leading(alloc, &VertexLine, head.text)?;
     let count = vertices.all.len() as u32;

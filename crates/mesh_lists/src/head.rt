@@ -271,7 +271,8 @@ fn behind_kept(text: &[u8]) -> Option<&[u8]>
 
 // The text behind the lines of the frame's number and of the viewer, or the first bad one of the two.
 fn read_opening(text: &[u8]) -> Result<&[u8], u32>
-    ensures lists { MatchResult result (λ rest. lists_of_lines (whole_lines text.now) ≡ opened_lists (whole_lines rest.now)) (λ line. lists_of_lines (whole_lines text.now) ≡ Err line) }
+    ensures lists { MatchResult result (λ rest. lists_of_lines (whole_lines text.now)
+        ≡ opened_lists (whole_lines rest.now)) (λ line. lists_of_lines (whole_lines text.now) ≡ Err line) }
     ensures left { IfOk result (λ rest. LeavesBehind 2 text.now rest.now) }
 {
     match behind_frame(text) {
@@ -397,7 +398,8 @@ fn head_behind(count: u32, border: Region, text: &[u8]) -> Head<'_>
     requires small { count ≤ 2 ^ 28 }
     ensures lists { let lines = whole_lines text.now in let kept = kept_lines lines in
         body_lists (2 + count + kept) border (drop kept lines) ≡ body_lists result.lines result.border (whole_lines result.text.now) }
-    ensures left { (before : List ℕ) → LeavesBehind (2 + count) before text.now → LeavesBehind result.lines before result.text.now }
+    ensures left { (before : List ℕ) → LeavesBehind (2 + count) before text.now
+        → LeavesBehind result.lines before result.text.now }
 {
     match behind_kept(text) {
         Some(text) => Head {

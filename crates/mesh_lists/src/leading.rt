@@ -45,7 +45,8 @@ pub(crate) fn next_said<'a, T: Drop, G: Grammar<T>>(
     text: &'a [u8],
 ) -> Option<Said<'a, T>>
     ensures value { MatchOption result (leading (G.says grammar.now) (whole_lines text.now) ≡ [])
-        (λ first. leading (G.says grammar.now) (whole_lines text.now) ≡ first.said ∷ leading (G.says grammar.now) (whole_lines first.text.now)) }
+        (λ first. leading (G.says grammar.now) (whole_lines text.now)
+        ≡ first.said ∷ leading (G.says grammar.now) (whole_lines first.text.now)) }
     ensures fits { IfSome result (λ first. G.fits grammar.now first.said) }
     ensures left { IfSome result (λ first. Follows text.now first.text.now) }
 {

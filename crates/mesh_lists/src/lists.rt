@@ -68,7 +68,8 @@ impl TextLists {
 /// The lists of a text of at most 2^28 bytes, or its first bad line.
 pub fn text_lists(alloc: Global, bytes: &[u8]) -> Result<TextLists, ListsFault>
     requires small { length bytes.now ≤ 2 ^ 28 }
-    ensures lists { MatchResult result (λ lists. lists_of_text bytes.now ≡ Ok lists) (IsStop (lists_of_text bytes.now)) }
+    ensures lists { MatchResult result (λ lists. lists_of_text bytes.now ≡ Ok lists)
+        (IsStop (lists_of_text bytes.now)) }
 {
     match read_head(alloc, bytes) {
         Ok(head) => read_body(alloc, head),

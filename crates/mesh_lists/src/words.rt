@@ -21,7 +21,8 @@ pub(crate) fn first_word(line: &[u8]) -> Cut<'_>
 
 /// The next word behind a word, where there is one.
 pub(crate) fn next_word(rest: &[u8]) -> Option<Cut<'_>>
-    ensures value { MatchOption result (parts_after 32 rest.now ≡ []) (λ cut. parts_after 32 rest.now ≡ cut.front.now ∷ parts_after 32 cut.rest.now) }
+    ensures value { MatchOption result (parts_after 32 rest.now ≡ []) (λ cut. parts_after 32 rest.now
+        ≡ cut.front.now ∷ parts_after 32 cut.rest.now) }
 {
     next_part(rest, b' ')
 }
