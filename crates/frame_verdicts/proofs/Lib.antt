@@ -1,0 +1,3 @@
+mod Corners
+mod Faces
+mod Judged

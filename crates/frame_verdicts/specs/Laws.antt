@@ -1,0 +1,39 @@
+-- Laws over the definitions alone.
+use Rattle.std.specs.Prelude.{◌≡◌, ℕ, List, length}
+use Rattle.clip_regions.specs.declared.region.Region.{Region}
+use Rattle.plan_model.specs.Limits.{IsSize}
+use Rattle.plan_model.specs.Laws.{AllEvenOrEmpty}
+use Rattle.plan_model.specs.Actives.{actives}
+use Rattle.active_region.specs.Active.{AreDrawn}
+use Rattle.terrain_model.specs.Terrain.{Terrain}
+use Rattle.mesh_model.specs.Mesh.{mesh}
+use Rattle.mesh_model.specs.Watertight.{covered}
+use Rattle.mesh_lists.specs.Lists.{Lists}
+use Rattle.mesh_check.specs.Verdict.{verdict_of_lists}
+use Rattle.mesh_check.specs.declared.verdict.Verdict.TheVariants.{Watertight}
+
+-- the lists of the mesh of some active regions: its vertices, its triangles, and what the regions cover
+abbrev pub lists_of_mesh : Terrain → ℕ → List Region → Lists
+lists_of_mesh terrain k actives =
+    record {
+      vertices = (mesh terrain k actives).vertices;
+      triangles = (mesh terrain k actives).triangles;
+      border = covered actives;
+    }
+
+-- the verdict on these lists is Watertight with the number of triangles
+abbrev pub IsJudgedWatertight : Terrain → ℕ → List Region → Type 0
+IsJudgedWatertight terrain k actives =
+    verdict_of_lists (lists_of_mesh terrain k actives) ≡ Watertight (length (mesh terrain k actives).triangles)
+
+-- for the active regions of a plan
+abbrev pub PlansAreJudgedWatertight : Type 0
+PlansAreJudgedWatertight =
+    (terrain : Terrain) (k finest : ℕ) (filled : List Region) → IsSize k → AllEvenOrEmpty filled →
+    IsJudgedWatertight terrain k (actives k finest filled)
+
+-- for those of a frame
+abbrev pub FramesAreJudgedWatertight : Type 0
+FramesAreJudgedWatertight =
+    (terrain : Terrain) (k : ℕ) (actives : List Region) → IsSize k → AreDrawn k actives →
+    IsJudgedWatertight terrain k actives
