@@ -1,3 +1,4 @@
 mod Corners
 mod Faces
 mod Judged
+mod Texts

@@ -1,8 +1,8 @@
-//! The verdict on the mesh of a frame: watertight, with the number of its triangles.
+//! The verdict on a frame, on its mesh and on its text: watertight, with the number of its triangles.
 //!
 //! The definitions of `specs/` are cited by the laws. No function computes.
 #![tactic(auto)]
 
 mod laws;
 
-pub use laws::meshes_are_judged_watertight;
+pub use laws::{frame_texts_are_judged_watertight, meshes_are_judged_watertight};
