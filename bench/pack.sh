@@ -1,5 +1,5 @@
 #!/usr/bin/env bash
-# Times the built program on `pack 12` of a made tile of 3601 x 3601 samples and on `info` of its store, best of several
+# Times the built program on `pack 12` of a made tile of 3601 x 3601 samples and on `info` of its store, in several
 # runs. With PLAIN=PROGRAM another program is timed on the same words in alternating runs, and the ratio printed; its
 # store has to be the same, byte for byte. With HGT tiles as arguments it prints how many bytes a sample their stores
 # take instead, beside the HGT file and, where gdal_translate is there, beside compressed GeoTIFF files.
@@ -71,21 +71,26 @@ if sys.byteorder == 'little':
 open('N00E000.hgt', 'wb').write(samples.tobytes())
 PY
 
-# Times words of this program and of the plain one, in alternating runs, and prints a row.
+# Times words of this program and of the plain one, in alternating runs, and prints a row: the medians of their processor
+# time, user and system, which other work on the machine changes less than the time on the clock.
 row() {
     python3 - "$runs" "$program" "${PLAIN:-}" "$@" <<'PY'
-import subprocess, sys, time
+import resource, statistics, subprocess, sys
 runs, program, plain, words = int(sys.argv[1]), sys.argv[2], sys.argv[3], sys.argv[4:]
+def used():
+    usage = resource.getrusage(resource.RUSAGE_CHILDREN)
+    return usage.ru_utime + usage.ru_stime
 def spent(name):
-    begin = time.perf_counter()
+    begin = used()
     subprocess.run([name] + words, check=True, stdout=subprocess.DEVNULL)
-    return time.perf_counter() - begin
-least = {}
+    return used() - begin
+times = {}
 for _ in range(runs):
     for name in [program] + ([plain] if plain else []):
-        least[name] = min(least.get(name, 1e9), spent(name))
-other = '%.4f | %.2f' % (least[plain], least[program] / least[plain]) if plain else '- | -'
-print('| `%s` | %.4f | %s |' % (' '.join(words), least[program], other))
+        times.setdefault(name, []).append(spent(name))
+ours = statistics.median(times[program])
+other = statistics.median(times[plain]) if plain else None
+print('| `%s` | %.3f | %s |' % (' '.join(words), ours, '%.3f | %.2f' % (other, ours / other) if plain else '- | -'))
 PY
 }
 
