@@ -7,7 +7,7 @@ use Rattle.clipmap_prog.specs.Faults.{Cause}
 use Rattle.clipmap_prog.specs.Frame.{frame_over, frame_reading, levelled}
 use Rattle.clipmap_prog.specs.Reading.{Finds, unfetched}
 use Rattle.clipmap_prog.specs.Runs.{CallsWithin}
-use Rattle.clipmap_prog.specs.Sources.{SourceView, source_view, sources_reading}
+use Rattle.clipmap_prog.specs.Sources.{source_view, sources_reading}
 use Rattle.clipmap_prog.specs.Stores.{Verdict}
 use Rattle.clipmap_prog.specs.declared.reading.Stop.{Stop}
 use Rattle.clipmap_prog.specs.declared.sources.Source.{Source}

@@ -1,6 +1,5 @@
 -- What a run comes to where it ends with a status.
-use Rattle.std.proofs.Common.{◌≡◌, ℕ, ◌+◌, ◌≤◌, IfOk, Result, Ok, Err, ◌⊎◌, inl, inr, refl, sym, subst, arith}
-use Rattle.outer_shelf.specs.Counts.{Rose}
+use Rattle.std.proofs.Common.{◌≡◌, ℕ, ◌+◌, ◌≤◌, IfOk, Result, Ok, Err, inl, inr, refl, sym, subst, arith}
 use Rattle.outer_shelf.specs.Outside.{Files, ShelfTold, SinkTold}
 use Rattle.clipmap_prog.specs.Outcome.{Outcome}
 use Rattle.clipmap_prog.specs.Promise.{Finishes, Halts, IsComplete, IsDone, RanTo, Runs, ShelfCallsWithin, SinkCallsWithin, Stands, status_of}

@@ -1,5 +1,5 @@
 -- What INPUT words come to: tiles, read from the files of their names.
-use Rattle.std.specs.Prelude.{ℕ, List, [], ◌∷◌, length, map as list_map, sum_by, nat_lt, if◌then◌else◌}
+use Rattle.std.specs.Prelude.{ℕ, List, length, map as list_map, sum_by, nat_lt, if◌then◌else◌}
 use Rattle.std.specs.Prelude.{Option, Some, None, Result, Ok, Err}
 use Rattle.std.specs.FinMap as map
 use Rattle.outer_shelf.specs.Outside.{Files}

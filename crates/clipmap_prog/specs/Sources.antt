@@ -4,7 +4,7 @@ use Rattle.std.specs.FinMap as map
 use Rattle.outer_shelf.specs.Outside.{Files}
 use Rattle.terrain_model.specs.Terrain.{Terrain}
 use Rattle.clipmap_prog.specs.Faults.{Cause}
-use Rattle.clipmap_prog.specs.Inputs.{TilesView, InputsView, Tiles as tiles_of, inputs_view, tiles_reading}
+use Rattle.clipmap_prog.specs.Inputs.{InputsView, Tiles as tiles_of, inputs_view, tiles_reading}
 use Rattle.clipmap_prog.specs.Reading.{Reading, unfetched, fetched, and_then}
 use Rattle.clipmap_prog.specs.Stores.{StoreView, Verdict, store_name, store_of_file, store_view}
 use Rattle.clipmap_prog.specs.declared.sources.Source.{Source}

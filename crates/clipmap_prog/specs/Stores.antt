@@ -1,5 +1,5 @@
 -- What the file of a store comes to.
-use Rattle.std.specs.Prelude.{◌≡◌, ℕ, ◌≤◌, List, [], ◌∷◌, length, nat_lt, if◌then◌else◌, Option, Some, None, IfSome, Result, Ok, Err, ⊤}
+use Rattle.std.specs.Prelude.{ℕ, ◌≤◌, List, [], ◌∷◌, length, nat_lt, if◌then◌else◌, Option, Some, None, IfSome, Result, Ok, Err}
 use Rattle.std.specs.FinMap as map
 use Rattle.outer_shelf.specs.Outside.{Files}
 use Rattle.terrain_model.specs.Terrain.{Terrain}

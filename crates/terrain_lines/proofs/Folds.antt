@@ -1,8 +1,7 @@
 -- The least and the greatest of a list are what a fold over it finds.
-use Rattle.std.proofs.Common.{◌≡◌, ℤ, pos, ◌<◌, ◌≤ℤ◌, List, length, get_or, fold, inl, inr, refl, sym, subst, ◌∙◌, ⊎_elim, Contains, arith}
+use Rattle.std.proofs.Common.{◌≡◌, ℤ, pos, ◌<◌, ◌≤ℤ◌, List, length, get_or, fold, refl, sym, subst, ⊎_elim, Contains, arith}
 use Rattle.std.specs.Int.{int_min, int_max}
 use Rattle.std.proofs.lemmas.Int.{ints, fold-int_min_bounds, fold-int_min_reached, fold-int_max_bounds, fold-int_max_reached}
-use Rattle.std.proofs.lemmas.List.{get_or_default}
 use Rattle.height_pyramid.specs.Extremes.{IsLeast, IsGreatest}
 use Rattle.terrain_lines.specs.Extremes.{least_of, most_of}
 

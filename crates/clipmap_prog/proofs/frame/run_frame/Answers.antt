@@ -1,10 +1,9 @@
-use Rattle.std.proofs.Common.{◌≡◌, ℕ, arith, subst, w32, to_z, of_z, FitsSigned}
+use Rattle.std.proofs.Common.{◌≡◌, arith, w32, to_z, of_z, FitsSigned}
 use Rattle.std.proofs.lemmas.Int.{ints, to_z-of_z}
 use Rattle.clipmap_words.specs.Frame.{FrameView, frame_view}
-use Rattle.clipmap_prog.specs.Courses.{Frame, course_actions, prepared_actions}
+use Rattle.clipmap_prog.specs.Courses.{prepared_actions}
 use Rattle.clipmap_prog.specs.Faults.{cause_of}
 use Rattle.clipmap_prog.specs.Frame.{frame_outcome, frame_over, frame_reading}
-use Rattle.clipmap_prog.specs.Runs.{Ran}
 use Rattle.clipmap_prog.specs.Sources.{source_view}
 use Rattle.clipmap_prog.proofs.Concluding.{concluded_done, concluded_refused, concluded_halted}
 use Rattle.clipmap_prog.proofs.frame.run_frame.Goals as goal

@@ -1,4 +1,4 @@
-use Rattle.std.proofs.Common.{◌≡◌, subst}
+use Rattle.std.proofs.Common.{subst}
 use Rattle.terrain_model.specs.Terrain.{Terrain}
 use Rattle.clipmap_words.specs.PackBy.{PackByView, pack_by_view}
 use Rattle.clipmap_prog.specs.Faults.{cause_of}
