@@ -3,17 +3,20 @@ use Rattle.std.specs.Prelude.{ℕ, List, [], ◌++◌, codes, decimal}
 use Rattle.std.specs.Fmt.{signed_decimal}
 use Rattle.hgt_tiles.specs.declared.tiles.TileFault.{TileFault}
 use Rattle.hgt_tiles.specs.declared.tiles.TileFault.TheVariants as tile
+use Rattle.mesh_check.specs.declared.verdict.Verdict.{Verdict}
 use Rattle.mosaic.specs.declared.fault.MosaicFault.{MosaicFault}
 use Rattle.mosaic.specs.declared.fault.MosaicFault.TheVariants as mosaic
 use Rattle.store_model.specs.declared.fault.StoreFault.{StoreFault}
 use Rattle.terrain_lines.specs.Faults.{store_fault_line}
+use Rattle.clipmap_prog.specs.Verdicts.{verdict_line}
 use Rattle.clipmap_prog.specs.declared.fault.FileFault.{FileFault}
 use Rattle.clipmap_prog.specs.declared.fault.FileFault.TheVariants as file
 use Rattle.clipmap_prog.specs.declared.fault.Fault.{Fault}
 use Rattle.clipmap_prog.specs.declared.fault.Fault.TheVariants as fault
 
 -- why a command is refused: its words are no command, a word is no tile's name, a file or the tile in it is faulty, the
--- tiles make no terrain together, a file is no store, or it has another number of levels than was asked for
+-- tiles make no terrain together, a file is no store, or it has another number of levels than was asked for, or the mesh
+-- of a file isn't watertight
 pub data Cause : Type 0 where
   Words : Cause
   BadName : List ℕ → Cause
@@ -22,6 +25,7 @@ pub data Cause : Type 0 where
   Mosaic : MosaicFault → Cause
   Store : StoreFault → Cause
   LevelsDiffer : ℕ → ℕ → Cause
+  Mesh : Verdict → Cause
 
 -- the line of a file of that name that can't be had
 abbrev pub file_line : List ℕ → FileFault → List ℕ
@@ -53,6 +57,7 @@ cause_line (Tile name fault) = tile_line name fault
 cause_line (Mosaic fault) = mosaic_line fault
 cause_line (Store fault) = store_fault_line fault
 cause_line (LevelsDiffer stored asked) = codes "fault: LevelsDiffer " ++ (decimal stored ++ (codes " " ++ (decimal asked ++ codes "\n")))
+cause_line (Mesh verdict) = verdict_line verdict
 
 -- the cause that a fault of the program's stands for
 abbrev pub cause_of : Fault → Cause
@@ -63,3 +68,4 @@ cause_of (fault.Tile name which) = Tile name.now which
 cause_of (fault.Mosaic which) = Mosaic which
 cause_of (fault.Store which) = Store which
 cause_of (fault.LevelsDiffer stored asked) = LevelsDiffer stored asked
+cause_of (fault.Mesh verdict) = Mesh verdict

@@ -1,4 +1,5 @@
 pub mod Actions
+pub mod Check
 pub mod Commands
 pub mod Courses
 pub mod Faults
@@ -13,4 +14,5 @@ pub mod Reading
 pub mod Runs
 pub mod Sources
 pub mod Stores
+pub mod Verdicts
 pub mod WholeFrame

@@ -3,7 +3,9 @@
 ghost use Rattle.std.specs.Prelude.{◌≡◌, IfOk, string_bytes};
 ghost use Rattle.clipmap_prog.specs.Faults.{cause_line, cause_of, file_line, mosaic_line, tile_line};
 
+use crate::verdicts::verdict_line;
 use hgt_tiles::{Corner, TileFault};
+use mesh_check::Verdict;
 use mosaic::MosaicFault;
 use std::alloc::{AllocError, Global};
 use store_model::StoreFault;
@@ -45,6 +47,8 @@ pub(crate) enum Fault<'a> {
         /// How many were asked for.
         asked: u8,
     },
+    /// The mesh of the file isn't watertight, or the file is no frame.
+    Mesh(Verdict),
 }
 
 /// The line of a file of that name that can't be had.
@@ -101,5 +105,6 @@ pub(crate) fn fault_line(alloc: Global, fault: Fault<'_>) -> Result<String, Allo
         Fault::LevelsDiffer { stored, asked } => {
             format!(in alloc; "fault: LevelsDiffer {stored} {asked}\n")
         }
+        Fault::Mesh(verdict) => verdict_line(alloc, verdict),
     }
 }

@@ -1,6 +1,9 @@
 //! The top call of the terrain engine: what the words of a command line do over a shelf of files and an output.
 #![tactic(auto)]
 
+mod check;
+#[cfg(test)]
+mod check_tests;
 mod course;
 mod draw;
 mod fault;
@@ -26,7 +29,9 @@ mod tile_files;
 #[cfg(test)]
 mod tile_tests;
 mod top;
+mod verdicts;
 
+pub use check::TEXT_LIMIT;
 pub use halt::Halt;
 pub use program::{Ended, run_main, run_program};
 pub use store_file::STORE_LIMIT;

@@ -6,6 +6,7 @@ ghost use Rattle.clipmap_prog.specs.Promise.{Runs};
 ghost use Rattle.clipmap_prog.specs.Runs.{HadReason};
 ghost use Rattle.clipmap_prog.specs.Stores.{ByVerdict};
 
+use crate::check::run_check;
 use crate::frame::run_frame;
 use crate::halt::Halt;
 use crate::info::run_info;
@@ -30,6 +31,7 @@ pub(crate) fn run<S: Shelf, K: Sink>(
     ensures reason { HadReason result (S.told shelf.old) (S.told shelf.new) (K.told out.old) (K.told out.new) }
 {
     match command {
+        Command::Check(check) => run_check(alloc, check, shelf, out),
         Command::Frame(frame) => run_frame(alloc, frame, shelf, out),
         Command::Info(info) => run_info(alloc, info, shelf, out),
         Command::Pack(pack) => run_pack(alloc, pack, shelf, out),

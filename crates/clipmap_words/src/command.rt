@@ -3,6 +3,7 @@ ghost use Rattle.std.specs.Prelude.{◌≡◌, map, string_bytes, IfSome};
 ghost use Rattle.std.specs.Option.{option_map};
 ghost use Rattle.clipmap_words.specs.Commands.{IsInRange, command_of, view_of};
 
+use crate::check::{CheckWords, read_check};
 use crate::frame::{FrameWords, read_frame};
 use crate::info::{InfoWords, read_info};
 use crate::pack::{PackWords, read_pack};
@@ -11,6 +12,8 @@ use crate::pack_by::{PackByWords, read_pack_by};
 /// A command, as its words give it.
 #[derive(Clone, Copy)]
 pub enum Command<'a> {
+    /// The verdict on a frame's text: `check FILE`.
+    Check(CheckWords<'a>),
     /// One frame of whole windows: `frame K L X Y OUT INPUT+`.
     Frame(FrameWords<'a>),
     /// What is known of tiles or of a store: `info INPUT+`.
@@ -29,6 +32,9 @@ pub fn read_words<'a>(words: &'a [String]) -> Option<Command<'a>>
     let [name, words @ ..] = words else {
         return None;
     };
+    if name.as_str() == "check" {
+        return read_check(words).map(Command::Check);
+    }
     if name.as_str() == "frame" {
         return read_frame(words).map(Command::Frame);
     }

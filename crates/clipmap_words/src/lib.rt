@@ -4,6 +4,7 @@
 //! have 1 to 200 bytes and no zero byte, and inputs are one store or 1 to 64 HGT tiles. Anything else is no command.
 #![tactic(auto)]
 
+mod check;
 mod command;
 mod frame;
 mod info;
@@ -14,6 +15,7 @@ mod pack_by;
 #[cfg(test)]
 mod tests;
 
+pub use check::CheckWords;
 pub use command::{Command, read_words};
 pub use frame::FrameWords;
 pub use info::InfoWords;

@@ -53,6 +53,7 @@ fn told(alloc: Global, words: &[&str]) -> Result<String, Fail> {
                 pack.inputs.len()
             )
         }
+        Some(Command::Check(check)) => format!(in alloc; "check {}", check.file),
         Some(Command::Frame(_)) => format!(in alloc; "frame"),
         None => format!(in alloc; "none"),
     };
@@ -60,8 +61,12 @@ fn told(alloc: Global, words: &[&str]) -> Result<String, Fail> {
 }
 
 #[test]
-fn reads_info_and_pack(rt: HostRuntime) -> Result<(), Fail> {
-    let table: [(&[&str], &str); 18] = [
+fn reads_the_other_commands(rt: HostRuntime) -> Result<(), Fail> {
+    let table: [(&[&str], &str); 22] = [
+        (&["check", "o.obj"], "check o.obj"),
+        (&["check"], "none"),
+        (&["check", ""], "none"),
+        (&["check", "o", "o"], "none"),
         (&["info"], "none"),
         (&["info", ""], "none"),
         (&["info", "a.hgt", "b.gct"], "none"),
