@@ -24,7 +24,7 @@ pub(crate) fn job_in(passes: &[Work<PlanFrame>], p: u8) -> Option<JobNote>
     job_of(&passes[p as usize])
 }
 
-/// The number of the frame that a pass has.
+// The number of the frame that a pass has.
 fn frame_number(pass: &Work<PlanFrame>) -> Option<u64>
     ensures value { result ≡ number_of (frame_of pass.now) }
 {

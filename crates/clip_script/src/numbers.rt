@@ -10,10 +10,10 @@ use crate::cut::{Cut, next_word};
 use crate::step::Place;
 use number_words::{natural_bytes, whole_bytes};
 
-/// The greatest coordinate of a viewer, in samples of the finest level; the least one is its negative.
+// The greatest coordinate of a viewer, in samples of the finest level; the least one is its negative.
 const VIEWER_LIMIT: u32 = 4_194_304;
 
-/// The greatest altitude of a viewer.
+// The greatest altitude of a viewer.
 const ALTITUDE_LIMIT: u64 = 1_048_576;
 
 /// The numbers of a line that has two.

@@ -10,10 +10,10 @@ use crate::cut::{Cut, next_word};
 use number_words::{whole_bytes, wide_whole_bytes};
 use region_cull::{HALF_SPACES, HalfSpace, View};
 
-/// The greatest factor of a half-space; the least one is its negative.
+// The greatest factor of a half-space; the least one is its negative.
 const FACTOR_LIMIT: u32 = 1 << 20;
 
-/// The greatest last number of a half-space; the least one is its negative.
+// The greatest last number of a half-space; the least one is its negative.
 const OFFSET_LIMIT: u64 = 1 << 40;
 
 // A half-space, and what stands behind its words.

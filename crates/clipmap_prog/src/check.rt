@@ -23,7 +23,7 @@ use std::alloc::Global;
 /// The most bytes that a file to be judged may have.
 pub const TEXT_LIMIT: u64 = 268_435_456;
 
-/// How many triangles the mesh of a file's text has, if it is watertight.
+// How many triangles the mesh of a file's text has, if it is watertight.
 fn judge_text<'a>(alloc: Global, bytes: &[u8]) -> Result<u32, Stop<'a>>
     requires in_limit { length bytes.now ≤ 2 ^ 28 }
     ensures found { Finds (λ triangles. triangles) result (judged (verdict bytes.now)) }
@@ -36,7 +36,7 @@ fn judge_text<'a>(alloc: Global, bytes: &[u8]) -> Result<u32, Stop<'a>>
     }
 }
 
-/// The same of the file of that name, by one fetch.
+// The same of the file of that name, by one fetch.
 fn read_check<'a, S: Shelf>(alloc: Global, shelf: &mut S, name: &'a str) -> Result<u32, Stop<'a>>
     ensures found { IfSome (S.told shelf.old).files (λ files. Finds (λ triangles. triangles) result
         (text_of_file name.now (finite.get files name.now))) }
@@ -57,7 +57,7 @@ fn read_check<'a, S: Shelf>(alloc: Global, shelf: &mut S, name: &'a str) -> Resu
     }
 }
 
-/// Tells that a mesh of so many triangles is watertight.
+// Tells that a mesh of so many triangles is watertight.
 fn tell<K: Sink>(alloc: Global, triangles: u32, out: &mut K) -> Result<(), Halt>
     ensures ran { (shelf : ShelfTold) → Ran leaves_nothing 0 (check_actions triangles) result
         shelf shelf (K.told out.old) (K.told out.new) }

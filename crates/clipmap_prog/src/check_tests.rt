@@ -7,12 +7,12 @@ use std::thread::Threads;
 
 const TILE: &str = "N00E000.hgt";
 
-/// The status and the output of a `check` of these bytes.
+// The status and the output of a `check` of these bytes.
 fn judged<R: Threads + Sync + AllocGlobal>(rt: &R, text: &[u8]) -> Result<Aftermath, NoMemory> {
     ran_over(rt, &["check", "out.obj"], &[("out.obj", text)], &[], &[])
 }
 
-/// The text of the frame of so many levels of the least size at (1, 1), over a tile of height 0.
+// The text of the frame of so many levels of the least size at (1, 1), over a tile of height 0.
 fn frame_of<R: Threads + Sync + AllocGlobal>(rt: &R, levels: &str) -> Option<Vec<u8>> {
     let words = ["frame", "4", levels, "1", "1", "out.obj", TILE];
     let Ok(left) = ran_over(rt, &words, &[(TILE, &[0u8; 18])], &[], &[]) else {
@@ -22,7 +22,7 @@ fn frame_of<R: Threads + Sync + AllocGlobal>(rt: &R, levels: &str) -> Option<Vec
     if status == 0 { file } else { None }
 }
 
-/// The text without the line of that number, counted from 0.
+// The text without the line of that number, counted from 0.
 fn without_line(alloc: Global, text: &[u8], number: usize) -> Result<Vec<u8>, AllocError> {
     let mut left = Vec::new(alloc);
     let mut at = 0usize;
@@ -37,7 +37,7 @@ fn without_line(alloc: Global, text: &[u8], number: usize) -> Result<Vec<u8>, Al
     Ok(left)
 }
 
-/// A frame that was drawn is watertight, and without one of its stitches it isn't.
+// A frame that was drawn is watertight, and without one of its stitches it isn't.
 #[test]
 fn judges_drawn_frames(rt: HostRuntime) {
     for (levels, output) in [("1", "watertight 392\n"), ("2", "watertight 714\n")] {
@@ -65,7 +65,7 @@ fn judges_drawn_frames(rt: HostRuntime) {
     );
 }
 
-/// The frame is read from the shelf on which `frame` put it, and stays as it was.
+// The frame is read from the shelf on which `frame` put it, and stays as it was.
 #[test]
 fn judges_a_frame_on_its_shelf(rt: HostRuntime) {
     let alloc = rt.alloc();
@@ -84,7 +84,7 @@ fn judges_a_frame_on_its_shelf(rt: HostRuntime) {
     assert!(rt; sink.bytes() == output.as_bytes());
 }
 
-/// The line of each verdict, of texts that are judged by hand.
+// The line of each verdict, of texts that are judged by hand.
 #[test]
 fn tells_of_texts(rt: HostRuntime) {
     let table = [
@@ -145,7 +145,7 @@ fn tells_of_texts(rt: HostRuntime) {
     }
 }
 
-/// A name is one word of any ending; a file that isn't there is absent.
+// A name is one word of any ending; a file that isn't there is absent.
 #[test]
 fn refused_words_and_names(rt: HostRuntime) {
     let files = [("out.obj", [].as_slice())];
@@ -171,7 +171,7 @@ fn refused_words_and_names(rt: HostRuntime) {
     }
 }
 
-/// A failed fetch, and failed writes of a verdict and of a fault.
+// A failed fetch, and failed writes of a verdict and of a fault.
 #[test]
 fn failing_calls_of_checks(rt: HostRuntime) {
     let flat = "# clipmap frame 0\n# viewer 0 0\n# level 0 empty\n";
@@ -192,7 +192,7 @@ fn failing_calls_of_checks(rt: HostRuntime) {
     }
 }
 
-/// A shelf with one file of so many zero bytes.
+// A shelf with one file of so many zero bytes.
 fn shelf_of_zeros(alloc: Global, length: u64) -> Result<MemoryShelf, NoMemory> {
     let mut bytes = Vec::with_capacity(alloc, length as usize)?;
     for _ in 0..length {
@@ -207,7 +207,7 @@ fn shelf_of_zeros(alloc: Global, length: u64) -> Result<MemoryShelf, NoMemory> {
     MemoryShelf::new(alloc, files, Vec::new(alloc))
 }
 
-/// A file of one byte past the limit is refused, whatever is in it.
+// A file of one byte past the limit is refused, whatever is in it.
 #[test]
 fn refuses_longer_files(rt: HostRuntime) {
     let alloc = rt.alloc();

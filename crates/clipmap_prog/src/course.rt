@@ -25,7 +25,7 @@ pub(crate) enum Course {
     },
 }
 
-/// Puts the text of a frame and then writes its line.
+// Puts the text of a frame and then writes its line.
 fn write_frame<S: Shelf, K: Sink>(
     shelf: &mut S,
     out: &mut K,

@@ -17,7 +17,7 @@ pub(crate) struct Drawn {
     pub(crate) line: String,
 }
 
-/// The line that tells of a frame with so many vertices and triangles.
+// The line that tells of a frame with so many vertices and triangles.
 fn frame_line(
     alloc: Global,
     number: u64,

@@ -51,7 +51,7 @@ pub(crate) enum Fault<'a> {
     Mesh(Verdict),
 }
 
-/// The line of a file of that name that can't be had.
+// The line of a file of that name that can't be had.
 fn file_line(alloc: Global, name: &str, fault: FileFault) -> Result<String, AllocError>
     ensures line { IfOk result (λ line. string_bytes line ≡ file_line name.now fault) }
 {
@@ -63,7 +63,7 @@ fn file_line(alloc: Global, name: &str, fault: FileFault) -> Result<String, Allo
     }
 }
 
-/// The line of a file of that name that is no tile. Want of memory is no refusal and has no line.
+// The line of a file of that name that is no tile. Want of memory is no refusal and has no line.
 fn tile_line(alloc: Global, name: &str, fault: TileFault) -> Result<String, AllocError>
     ensures line { IfOk result (λ line. string_bytes line ≡ tile_line name.now fault) }
 {
@@ -73,8 +73,8 @@ fn tile_line(alloc: Global, name: &str, fault: TileFault) -> Result<String, Allo
     }
 }
 
-/// The line of tiles that make no terrain together. Every command has a tile, and want of memory is no refusal: these
-/// two have no line.
+// The line of tiles that make no terrain together. Every command has a tile, and want of memory is no refusal: these
+// two have no line.
 fn mosaic_line(alloc: Global, fault: MosaicFault) -> Result<String, AllocError>
     ensures line { IfOk result (λ line. string_bytes line ≡ mosaic_line fault) }
 {

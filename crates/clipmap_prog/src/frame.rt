@@ -20,7 +20,7 @@ use grid_frames::Viewer;
 use outer_shelf::{Shelf, Sink};
 use std::alloc::Global;
 
-/// The inputs, if they may have so many levels as the frame: a store has its own number.
+// The inputs, if they may have so many levels as the frame: a store has its own number.
 fn level<'a>(frame: &FrameWords<'_>, source: Source) -> Result<Source, Stop<'a>>
     ensures found { Finds (λ source. frame_over (frame_view frame.now) (source_view source)) result
         (levelled (frame_view frame.now) (source_view source)) }
@@ -37,7 +37,7 @@ fn level<'a>(frame: &FrameWords<'_>, source: Source) -> Result<Source, Stop<'a>>
     Ok(source)
 }
 
-/// The inputs that a frame is drawn over.
+// The inputs that a frame is drawn over.
 #[tactic(auto, unfolding(crate::specs::Frame::frame_reading))]
 fn read_frame<'a, S: Shelf>(
     alloc: Global,

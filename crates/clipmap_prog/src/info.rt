@@ -19,7 +19,7 @@ use outer_shelf::{Shelf, Sink};
 use std::alloc::{AllocError, Global};
 use terrain_lines::{heights_line, store_line, terrain_line, tiles_line};
 
-/// The three lines of an `info`.
+// The three lines of an `info`.
 #[derive(Drop)]
 struct Lines {
     terrain: String,
@@ -27,7 +27,7 @@ struct Lines {
     source: String,
 }
 
-/// The line that tells where a terrain comes from.
+// The line that tells where a terrain comes from.
 fn source_line(alloc: Global, source: &Source) -> Result<String, AllocError>
     ensures line { IfOk result (λ line. string_bytes line ≡ source_line (source_view source.now)) }
 {
@@ -37,7 +37,7 @@ fn source_line(alloc: Global, source: &Source) -> Result<String, AllocError>
     }
 }
 
-/// The lines that tell of inputs.
+// The lines that tell of inputs.
 fn lines_of(alloc: Global, source: &Source) -> Result<Lines, AllocError>
     ensures terrain { IfOk result (λ lines.
         string_bytes lines.terrain ≡ terrain_line (terrain_of (source_view source.now))) }
@@ -55,7 +55,7 @@ fn lines_of(alloc: Global, source: &Source) -> Result<Lines, AllocError>
     })
 }
 
-/// Writes two lines, one after the other.
+// Writes two lines, one after the other.
 fn write_two<K: Sink>(out: &mut K, first: &str, second: &str) -> Result<(), Halt>
     ensures ran { (shelf : ShelfTold) → Ran leaves_nothing 0 (Write first.now ∷ Write second.now ∷ []) result
         shelf shelf (K.told out.old) (K.told out.new) }
@@ -67,7 +67,7 @@ fn write_two<K: Sink>(out: &mut K, first: &str, second: &str) -> Result<(), Halt
     }
 }
 
-/// Writes three lines, one after the other.
+// Writes three lines, one after the other.
 fn write_lines<K: Sink>(out: &mut K, lines: &Lines) -> Result<(), Halt>
     ensures ran { (shelf : ShelfTold) → Ran leaves_nothing 0
         (Write (string_bytes lines.now.terrain) ∷ Write (string_bytes lines.now.heights)
@@ -80,7 +80,7 @@ fn write_lines<K: Sink>(out: &mut K, lines: &Lines) -> Result<(), Halt>
     }
 }
 
-/// Tells of inputs.
+// Tells of inputs.
 fn tell<K: Sink>(alloc: Global, source: &Source, out: &mut K) -> Result<(), Halt>
     ensures ran { (shelf : ShelfTold) → Ran leaves_nothing 0 (info_actions (source_view source.now)) result
         shelf shelf (K.told out.old) (K.told out.new) }

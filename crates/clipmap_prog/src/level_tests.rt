@@ -4,7 +4,7 @@ use crate::tile_tests::sea;
 
 const TILE: &str = "N00E000.hgt";
 
-/// Two whole windows over a flat tile: the first stitch is the triangle of the first three vertices.
+// Two whole windows over a flat tile: the first stitch is the triangle of the first three vertices.
 #[test]
 fn two_levels(rt: HostRuntime) {
     let words = ["frame", "4", "2", "1", "1", "out.obj", TILE];
@@ -38,7 +38,7 @@ fn two_levels(rt: HostRuntime) {
     }
 }
 
-/// Six levels over a tile of three arc seconds.
+// Six levels over a tile of three arc seconds.
 #[test]
 fn six_levels(rt: HostRuntime) {
     let words = ["frame", "6", "6", "600", "600", "out.obj", TILE];
@@ -73,7 +73,7 @@ fn six_levels(rt: HostRuntime) {
     }
 }
 
-/// Twelve levels at the limit of the viewer: every height is that of no terrain.
+// Twelve levels at the limit of the viewer: every height is that of no terrain.
 #[test]
 fn twelve_levels_far_off(rt: HostRuntime) {
     let words = ["frame", "4", "12", "-4194304", "4194304", "out.obj", TILE];

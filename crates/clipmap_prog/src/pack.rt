@@ -21,7 +21,7 @@ use std::alloc::Global;
 use store_writer::{canonical_bytes, canonical_bytes_by};
 use terrain_lines::packed_line;
 
-/// Puts the bytes of a store and then writes its line.
+// Puts the bytes of a store and then writes its line.
 fn write_store<S: Shelf, K: Sink>(
     shelf: &mut S,
     out: &mut K,
@@ -39,7 +39,7 @@ fn write_store<S: Shelf, K: Sink>(
     }
 }
 
-/// Puts a grid's exact store of so many levels under a name, and then writes its line.
+// Puts a grid's exact store of so many levels under a name, and then writes its line.
 fn pack<S: Shelf, K: Sink>(
     alloc: Global,
     grid: &Grid,
@@ -63,7 +63,7 @@ fn pack<S: Shelf, K: Sink>(
     write_store(shelf, out, name, bytes.as_slice(), line.as_str())
 }
 
-/// The same of its store by a step.
+// The same of its store by a step.
 fn pack_by<S: Shelf, K: Sink>(
     alloc: Global,
     grid: &Grid,

@@ -68,7 +68,7 @@ pub fn run_program<R: Threads + Sync, S: Shelf, K: Sink>(
     Ended { status }
 }
 
-/// The words after the program's name.
+// The words after the program's name.
 fn command_words<R: Env + AllocGlobal>(rt: &R) -> io::Result<Vec<String>> {
     let mut words = Vec::new(rt.alloc());
     for word in env::args(rt)?.skip(1) {

@@ -17,7 +17,7 @@ use store_reader::{StoredHeights, read_heights};
 /// The most bytes that the file of a store may have.
 pub const STORE_LIMIT: u64 = 1_073_741_824;
 
-/// The store of the bytes of a file, if they are one.
+// The store of the bytes of a file, if they are one.
 fn judge_store<'a>(alloc: Global, bytes: &[u8]) -> Result<StoreFile, Stop<'a>>
     ensures found { (verdict : Verdict) → IsVerdict bytes.now verdict
         → Finds store_view result (store_by (length bytes.now) verdict) }

@@ -10,7 +10,7 @@ use store_writer::canonical_bytes;
 
 const TILE: &str = "N00E000.hgt";
 
-/// What a run over some files left: its status, what it wrote, and the file `o`.
+// What a run over some files left: its status, what it wrote, and the file `o`.
 #[derive(Drop)]
 struct Left {
     status: u8,
@@ -18,7 +18,7 @@ struct Left {
     file: Option<Vec<u8>>,
 }
 
-/// Runs the words over these files.
+// Runs the words over these files.
 fn run<R: Threads + Sync + AllocGlobal>(
     rt: &R,
     words: &[&str],
@@ -27,7 +27,7 @@ fn run<R: Threads + Sync + AllocGlobal>(
     run_failing(rt, words, files, &[], &[])
 }
 
-/// The same, where calls of these numbers fail.
+// The same, where calls of these numbers fail.
 fn run_failing<R: Threads + Sync + AllocGlobal>(
     rt: &R,
     words: &[&str],
@@ -52,13 +52,13 @@ fn run_failing<R: Threads + Sync + AllocGlobal>(
     })
 }
 
-/// The file of a run that was done.
+// The file of a run that was done.
 fn file_of(left: Left) -> Option<Vec<u8>> {
     let Left { status, file, .. } = left;
     if status == 0 { file } else { None }
 }
 
-/// Bytes in hexadecimal.
+// Bytes in hexadecimal.
 fn hex(alloc: Global, bytes: &[u8]) -> Result<String, NoMemory> {
     let mut text = String::new(alloc);
     for byte in bytes {
@@ -69,7 +69,7 @@ fn hex(alloc: Global, bytes: &[u8]) -> Result<String, NoMemory> {
     Ok(text)
 }
 
-/// The tile of 3 × 3 samples that are 0, but for the middle one.
+// The tile of 3 × 3 samples that are 0, but for the middle one.
 fn peak(height: u16) -> [u8; 18] {
     let mut bytes = [0u8; 18];
     bytes[8] = (height / 256) as u8;
@@ -77,7 +77,7 @@ fn peak(height: u16) -> [u8; 18] {
     bytes
 }
 
-/// The exact store of the tile with 30000 in the middle.
+// The exact store of the tile with 30000 in the middle.
 const FIRST: [u8; 33] = [
     0x47, 0x43, 0x54, 0x31, 0, 0, 0, 3, 0, 0, 0, 3, 2, 0, 8, 0, 0, 0, 0, 0, 0, 0, 0, 0, 8, 0x03,
     0xff, 0xff, 0xff, 0xfc, 0xea, 0x60, 0x00,
@@ -150,7 +150,7 @@ fn packs_a_tile(rt: HostRuntime) {
     }
 }
 
-/// A store of version 1 is carried over to version 2 by the step 1.
+// A store of version 1 is carried over to version 2 by the step 1.
 #[test]
 fn carries_a_store_over(rt: HostRuntime) {
     let words = ["packq", "2", "1", "o", "out.gct"];
@@ -167,7 +167,7 @@ fn carries_a_store_over(rt: HostRuntime) {
     assert_eq!(rt; found.as_str(), want);
 }
 
-/// A store with other bytes in these places.
+// A store with other bytes in these places.
 fn changed(first: usize, second: usize, bytes: [u8; 2]) -> [u8; 33] {
     let mut store = FIRST;
     if first < 33 && second < 33 {
@@ -224,12 +224,12 @@ fn tells_of_tiles_and_stores(rt: HostRuntime) {
     }
 }
 
-/// What `info` says of bytes as a store.
+// What `info` says of bytes as a store.
 fn told<R: Threads + Sync + AllocGlobal>(rt: &R, bytes: &[u8]) -> Result<Left, NoMemory> {
     run(rt, &["info", "out.gct"], &[("out.gct", bytes)])
 }
 
-/// Every fault of a store, once, with its line.
+// Every fault of a store, once, with its line.
 #[test]
 fn faulty_stores(rt: HostRuntime) {
     let longer = {
@@ -276,7 +276,7 @@ fn faulty_stores(rt: HostRuntime) {
     }
 }
 
-/// A front of a store is cut short where it ends, whatever its length.
+// A front of a store is cut short where it ends, whatever its length.
 #[test]
 fn cut_stores(rt: HostRuntime) {
     for length in 0..33usize {
@@ -289,7 +289,7 @@ fn cut_stores(rt: HostRuntime) {
     }
 }
 
-/// Each byte of the first store changed to each other byte: `info` answers 0 with three lines, or 2 with one.
+// Each byte of the first store changed to each other byte: `info` answers 0 with three lines, or 2 with one.
 #[test]
 fn stores_with_one_byte_changed(rt: HostRuntime) {
     let mut sound = 0u32;
@@ -316,7 +316,7 @@ fn stores_with_one_byte_changed(rt: HostRuntime) {
     assert!(rt; sound > 0);
 }
 
-/// Which inputs each command takes, and what comes first.
+// Which inputs each command takes, and what comes first.
 #[test]
 fn refused_stores(rt: HostRuntime) {
     let tile = peak(1);
@@ -371,7 +371,7 @@ fn refused_stores(rt: HostRuntime) {
     }
 }
 
-/// A frame over a store by the step 7 of the tile with 1000 in the middle: the height that comes back is 1001.
+// A frame over a store by the step 7 of the tile with 1000 in the middle: the height that comes back is 1001.
 #[test]
 fn draws_over_a_store(rt: HostRuntime) {
     let store = [
@@ -400,7 +400,7 @@ fn draws_over_a_store(rt: HostRuntime) {
     assert!(rt; left.file.is_none());
 }
 
-/// Calls that fail: what was put or written before stands.
+// Calls that fail: what was put or written before stands.
 #[test]
 fn failing_calls_of_stores(rt: HostRuntime) {
     let tile = peak(1);
@@ -432,7 +432,7 @@ fn failing_calls_of_stores(rt: HostRuntime) {
     }
 }
 
-/// 100 × 67 heights drawn at random, from the lowest to the highest of 16 bits.
+// 100 × 67 heights drawn at random, from the lowest to the highest of 16 bits.
 fn random_heights(alloc: Global) -> Option<Grid> {
     let mut heights = Vec::new(alloc);
     let mut state = 1u64;
@@ -452,8 +452,8 @@ fn random_heights(alloc: Global) -> Option<Grid> {
     }
 }
 
-/// The greatest distance in metres of the heights in two exact stores of one level and one size. Behind the first byte
-/// they are pairs of bytes: of the header and of lengths, which are the same in both, and of heights.
+// The greatest distance in metres of the heights in two exact stores of one level and one size. Behind the first byte
+// they are pairs of bytes: of the header and of lengths, which are the same in both, and of heights.
 fn farthest(first: &[u8], second: &[u8]) -> i32 {
     let ([_, first @ ..], [_, second @ ..]) = (first, second) else {
         return 0;
@@ -472,8 +472,8 @@ fn farthest(first: &[u8], second: &[u8]) -> i32 {
     most
 }
 
-/// Random heights by any number of levels: the exact store is carried over by a step, and what is read of the file lies
-/// within half a step of the heights.
+// Random heights by any number of levels: the exact store is carried over by a step, and what is read of the file lies
+// within half a step of the heights.
 #[test]
 fn packs_and_reads_back(rt: HostRuntime) {
     let alloc = rt.alloc();

@@ -6,7 +6,7 @@ use std::io;
 use std::process::Termination;
 use std::thread::Threads;
 
-/// The 3 × 3 tile of the heights 1 to 9.
+// The 3 × 3 tile of the heights 1 to 9.
 const NINE: [u8; 18] = [0, 1, 0, 2, 0, 3, 0, 4, 0, 5, 0, 6, 0, 7, 0, 8, 0, 9];
 
 const TILE: &str = "N00E000.hgt";
@@ -49,7 +49,7 @@ pub(crate) struct Aftermath {
     pub(crate) file: Option<Vec<u8>>,
 }
 
-/// Runs the words over a shelf with one tile, whose calls of these numbers fail, and a sink whose writes of these fail.
+// Runs the words over a shelf with one tile, whose calls of these numbers fail, and a sink whose writes of these fail.
 fn ran<R: Threads + Sync + AllocGlobal>(
     rt: &R,
     words: &[&str],
@@ -91,7 +91,7 @@ pub(crate) fn line(text: &[u8], number: usize) -> &[u8] {
 
 const FIRST: [&str; 7] = ["frame", "4", "1", "1", "1", "out.obj", TILE];
 
-/// The first run of the program. It refuses a body that always answers want of memory, which no clause can.
+// The first run of the program. It refuses a body that always answers want of memory, which no clause can.
 #[test]
 fn first_frame(rt: HostRuntime) {
     let Ok(left) = ran(&rt, &FIRST, &NINE, &[], &[]) else {
@@ -219,7 +219,7 @@ fn failing_calls(rt: HostRuntime) {
     }
 }
 
-/// Words that couldn't be read are no command, and words for which there was no memory end the program with 5.
+// Words that couldn't be read are no command, and words for which there was no memory end the program with 5.
 #[test]
 fn words_that_cannot_be_read(rt: HostRuntime) {
     let alloc = rt.alloc();
@@ -240,7 +240,7 @@ fn words_that_cannot_be_read(rt: HostRuntime) {
     }
 }
 
-/// Words of `frame` with one of them changed.
+// Words of `frame` with one of them changed.
 fn changed<'a>(place: usize, word: &'a str) -> [&'a str; 7] {
     let mut words = FIRST;
     if place < 7 {
@@ -249,7 +249,7 @@ fn changed<'a>(place: usize, word: &'a str) -> [&'a str; 7] {
     words
 }
 
-/// Whether the words are answered as faulty, with nothing fetched: the first call of the shelf would fail.
+// Whether the words are answered as faulty, with nothing fetched: the first call of the shelf would fail.
 fn are_faulty<R: Threads + Sync + AllocGlobal>(rt: &R, words: &[&str]) -> bool {
     match ran(rt, words, &NINE, &[0], &[]) {
         Ok(ran) => ran.status == 1 && ran.output.as_slice() == b"fault: words\n".as_slice(),

@@ -29,7 +29,7 @@ pub(crate) struct Named<'a> {
     corner: Corner,
 }
 
-/// Appends an item to a list.
+// Appends an item to a list.
 fn append<T: Drop>(list: &mut Vec<T>, item: T) -> Result<(), AllocError>
     ensures items { OnOk result (list.new.items ≡ list.old.items ++ item ∷ []) }
     ensures length { OnOk result (vec_len list.new ≡ vec_len list.old + 1) }
@@ -38,7 +38,7 @@ fn append<T: Drop>(list: &mut Vec<T>, item: T) -> Result<(), AllocError>
     Ok(())
 }
 
-/// The name of a tile, judged.
+// The name of a tile, judged.
 fn judge_name<'a>(name: &'a str) -> Result<Named<'a>, Stop<'a>>
     ensures found { Finds named_view result (name_reading name.now).found }
     ensures reason { OnStop result ⊥ }
@@ -49,7 +49,7 @@ fn judge_name<'a>(name: &'a str) -> Result<Named<'a>, Stop<'a>>
     }
 }
 
-/// The names of tiles, judged in their order.
+// The names of tiles, judged in their order.
 fn judge_names<'a>(alloc: Global, names: &'a [String]) -> Result<Vec<Named<'a>>, Stop<'a>>
     ensures found { Finds (λ named. list_map named_view named.items) result
         (each_of name_reading (list_map string_bytes names.now)).found }
@@ -70,7 +70,7 @@ fn judge_names<'a>(alloc: Global, names: &'a [String]) -> Result<Vec<Named<'a>>,
     Ok(judged)
 }
 
-/// The tile of the bytes of a file, if it is one.
+// The tile of the bytes of a file, if it is one.
 fn tile_of_file<'a>(alloc: Global, named: &Named<'a>, bytes: &[u8]) -> Result<HgtTile, Stop<'a>>
     requires in_limit { length bytes.now ≤ 25934402 }
     ensures found { Finds (λ tile. tile) result (tile_of_file (named_view named.now) (Some bytes.now)) }
@@ -86,7 +86,7 @@ fn tile_of_file<'a>(alloc: Global, named: &Named<'a>, bytes: &[u8]) -> Result<Hg
     }
 }
 
-/// The tile of the file of that name, by one fetch. The file's bytes are gone once it is read.
+// The tile of the file of that name, by one fetch. The file's bytes are gone once it is read.
 fn fetch_tile<'a, S: Shelf>(
     alloc: Global,
     shelf: &mut S,
@@ -111,7 +111,7 @@ fn fetch_tile<'a, S: Shelf>(
     }
 }
 
-/// The tiles of named files, each by one fetch, in their order.
+// The tiles of named files, each by one fetch, in their order.
 fn fetch_tiles<'a, S: Shelf>(
     alloc: Global,
     shelf: &mut S,
@@ -141,7 +141,7 @@ fn fetch_tiles<'a, S: Shelf>(
     Ok(tiles)
 }
 
-/// The side of the first of some tiles, and 0 where there is none.
+// The side of the first of some tiles, and 0 where there is none.
 fn first_side(tiles: &[HgtTile]) -> u32
     ensures value { result ≡ first_side (list_map placed tiles.now) }
 {
@@ -151,7 +151,7 @@ fn first_side(tiles: &[HgtTile]) -> u32
     }
 }
 
-/// How many voids some tiles had in their files.
+// How many voids some tiles had in their files.
 fn all_voids(tiles: &[HgtTile]) -> u64
     requires few { length tiles.now ≤ 64 }
     ensures value { result ≡ sum_by (λ tile. tile.voids) tiles.now }
@@ -163,7 +163,7 @@ fn all_voids(tiles: &[HgtTile]) -> u64
     voids
 }
 
-/// Tiles put together.
+// Tiles put together.
 fn join_tiles<'a>(alloc: Global, tiles: Vec<HgtTile>) -> Result<Inputs, Stop<'a>>
     requires few { vec_len tiles ≤ 64 }
     ensures found { Finds inputs_view result (joined tiles.items) }
@@ -184,7 +184,7 @@ fn join_tiles<'a>(alloc: Global, tiles: Vec<HgtTile>) -> Result<Inputs, Stop<'a>
     }
 }
 
-/// Named tiles, fetched and read one after another and then put together.
+// Named tiles, fetched and read one after another and then put together.
 fn read_named<'a, S: Shelf>(
     alloc: Global,
     shelf: &mut S,

@@ -3,7 +3,7 @@ use crate::tests::{Aftermath, line, ran_over};
 use std::alloc::{AllocError, Global};
 use std::thread::Threads;
 
-/// The bytes of a tile of nine samples of one height, a small one.
+// The bytes of a tile of nine samples of one height, a small one.
 fn flat(height: u8) -> [u8; 18] {
     let mut bytes = [0u8; 18];
     for n in 0..9usize {
@@ -21,7 +21,7 @@ pub(crate) fn sea(alloc: Global) -> Result<Vec<u8>, AllocError> {
     Ok(bytes)
 }
 
-/// The text of the frame that the words ask for over these files, where it is drawn.
+// The text of the frame that the words ask for over these files, where it is drawn.
 fn drawn<R: Threads + Sync + AllocGlobal>(
     rt: &R,
     words: &[&str],
@@ -34,7 +34,7 @@ fn drawn<R: Threads + Sync + AllocGlobal>(
     if status == 0 { file } else { None }
 }
 
-/// The place of the vertex at (x, z) in the text of a frame of size 4 round the viewer (1, 1), counted in lines.
+// The place of the vertex at (x, z) in the text of a frame of size 4 round the viewer (1, 1), counted in lines.
 fn place(x: usize, z: usize) -> usize {
     3usize
         .saturating_add(z.saturating_add(6).saturating_mul(15))
@@ -42,8 +42,8 @@ fn place(x: usize, z: usize) -> usize {
         .saturating_add(6)
 }
 
-/// Four tiles round (0, 0): south of the equator and west of the meridian too. The seams belong to the north and then
-/// to the west.
+// Four tiles round (0, 0): south of the equator and west of the meridian too. The seams belong to the north and then
+// to the west.
 #[test]
 fn four_corners(rt: HostRuntime) {
     let (one, two, three, four) = (flat(1), flat(2), flat(3), flat(4));
@@ -89,7 +89,7 @@ fn four_corners(rt: HostRuntime) {
     }
 }
 
-/// The rows V V V, V 5 V and 7 V 9, where V is a void, become 0 0 0, 5 5 5 and 7 7 9.
+// The rows V V V, V 5 V and 7 V 9, where V is a void, become 0 0 0, 5 5 5 and 7 7 9.
 #[test]
 fn voids_are_filled(rt: HostRuntime) {
     let tile = [
@@ -118,7 +118,7 @@ fn voids_are_filled(rt: HostRuntime) {
     }
 }
 
-/// Tiles that touch the 180th meridian lie at the two ends of the terrain: 721 columns by 3 rows.
+// Tiles that touch the 180th meridian lie at the two ends of the terrain: 721 columns by 3 rows.
 #[test]
 fn both_sides_of_the_180th_meridian(rt: HostRuntime) {
     let (west, east) = (flat(8), flat(9));
@@ -153,7 +153,7 @@ fn both_sides_of_the_180th_meridian(rt: HostRuntime) {
     }
 }
 
-/// Sets of small tiles that are refused, and which of several faults is told.
+// Sets of small tiles that are refused, and which of several faults is told.
 #[test]
 fn faulty_sets(rt: HostRuntime) {
     let tile = flat(1);
@@ -217,7 +217,7 @@ fn faulty_sets(rt: HostRuntime) {
     }
 }
 
-/// Each file is fetched by one call, and none before all names are judged.
+// Each file is fetched by one call, and none before all names are judged.
 #[test]
 fn failing_fetches(rt: HostRuntime) {
     let tile = flat(1);
@@ -250,8 +250,8 @@ fn failing_fetches(rt: HostRuntime) {
     }
 }
 
-/// Tiles of side 1201 that lie too far apart: 171 * 1200 + 1 columns by 81 * 1200 + 1 rows, and 360 * 1200 + 1 columns
-/// by 1201 rows.
+// Tiles of side 1201 that lie too far apart: 171 * 1200 + 1 columns by 81 * 1200 + 1 rows, and 360 * 1200 + 1 columns
+// by 1201 rows.
 #[test]
 fn too_large_sets(rt: HostRuntime) {
     let Ok(tile) = sea(rt.alloc()) else {

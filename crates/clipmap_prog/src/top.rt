@@ -59,7 +59,7 @@ pub fn clipmap<R: Threads + Sync, S: Shelf, K: Sink>(
     status(run_words(alloc, words, shelf, out))
 }
 
-/// Runs the words. `Ok` is the status.
+// Runs the words. `Ok` is the status.
 fn run_words<S: Shelf, K: Sink>(
     alloc: Global,
     words: &[String],
@@ -81,7 +81,7 @@ fn run_words<S: Shelf, K: Sink>(
     }
 }
 
-/// The status of a run.
+// The status of a run.
 fn status(run: Result<u8, Halt>) -> u8
     ensures value { result ≡ status_of run }
 {

@@ -19,7 +19,7 @@ pub struct PackByWords<'a> {
     pub inputs: &'a [String],
 }
 
-/// A step: an odd number from 1 to 255 in its one spelling, and `None` at any other word.
+// A step: an odd number from 1 to 255 in its one spelling, and `None` at any other word.
 fn read_step(word: &str) -> Option<u8>
     ensures value { result ≡ step_of word.now }
     ensures odd { IfSome result (λ step. step % 2 ≡ 1) }

@@ -28,7 +28,7 @@ fn reads_frame(rt: HostRuntime) -> Result<(), Fail> {
     Ok(())
 }
 
-/// The command that these words are, told in a few words of its own.
+// The command that these words are, told in a few words of its own.
 fn told(alloc: Global, words: &[&str]) -> Result<String, Fail> {
     let mut all = Vec::new(alloc);
     for word in words {

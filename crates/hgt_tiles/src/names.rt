@@ -25,7 +25,7 @@ pub fn read_name(word: &str) -> Result<Corner, BadName>
     corner_of(name_in(word)).ok_or(BadName)
 }
 
-/// The bytes of `word` after its last `/`, or all of them.
+// The bytes of `word` after its last `/`, or all of them.
 #[tactic(auto, unfolding(terrain_model::specs::Name::name_of_word))]
 fn name_in(word: &str) -> &[u8]
     ensures { result.now ≡ name_of_word word.now }
@@ -37,7 +37,7 @@ fn name_in(word: &str) -> &[u8]
     }
 }
 
-/// The corner that the eleven characters of a name give.
+// The corner that the eleven characters of a name give.
 #[tactic(auto, unfolding(terrain_model::specs::Name::corner_of_name))]
 fn corner_of(name: &[u8]) -> Option<Corner>
     ensures { result ≡ corner_of_name name.now }
@@ -50,7 +50,7 @@ fn corner_of(name: &[u8]) -> Option<Corner>
     Some(Corner { lat, lon })
 }
 
-/// Are these four characters `.hgt`, in either case?
+// Are these four characters `.hgt`, in either case?
 #[tactic(auto, unfolding(terrain_model::specs::Name::is_extension))]
 fn is_hgt(dot: u8, h: u8, g: u8, t: u8) -> bool
     ensures { result ≡ is_extension dot h g t }
@@ -58,7 +58,7 @@ fn is_hgt(dot: u8, h: u8, g: u8, t: u8) -> bool
     dot == b'.' && is_letter(b'h', h) && is_letter(b'g', g) && is_letter(b't', t)
 }
 
-/// Is `c` the letter that `lower` is, in either case?
+// Is `c` the letter that `lower` is, in either case?
 #[tactic(auto, unfolding(terrain_model::specs::Name::is_either_case))]
 fn is_letter(lower: u8, c: u8) -> bool
     requires { 32 ≤ lower }
@@ -67,7 +67,7 @@ fn is_letter(lower: u8, c: u8) -> bool
     c == lower || c == lower - 32
 }
 
-/// The degrees of latitude that `N` or `S` and two digits give.
+// The degrees of latitude that `N` or `S` and two digits give.
 #[tactic(auto, unfolding(terrain_model::specs::Name::latitude))]
 fn read_latitude(side: u8, tens: u8, ones: u8) -> Option<i16>
     ensures { result ≡ latitude side tens ones }
@@ -79,7 +79,7 @@ fn read_latitude(side: u8, tens: u8, ones: u8) -> Option<i16>
     signed_degrees(is_letter(b'n', side), is_letter(b's', side), 90, number)
 }
 
-/// The degrees of longitude that `E` or `W` and three digits give.
+// The degrees of longitude that `E` or `W` and three digits give.
 #[tactic(auto, unfolding(terrain_model::specs::Name::longitude))]
 fn read_longitude(side: u8, hundreds: u8, tens: u8, ones: u8) -> Option<i16>
     ensures { result ≡ longitude side hundreds tens ones }
@@ -93,8 +93,8 @@ fn read_longitude(side: u8, hundreds: u8, tens: u8, ones: u8) -> Option<i16>
     signed_degrees(is_letter(b'e', side), is_letter(b'w', side), 180, number)
 }
 
-/// `number` degrees towards the first side, where they are fewer than `limit`, or towards the second,
-/// where they are negative and at most `limit`.
+// `number` degrees towards the first side, where they are fewer than `limit`, or towards the second,
+// where they are negative and at most `limit`.
 #[tactic(auto, unfolding(terrain_model::specs::Name::degrees))]
 fn signed_degrees(is_first: bool, is_second: bool, limit: u16, number: u16) -> Option<i16>
     requires { limit ≤ 999 }

@@ -13,7 +13,7 @@ use std::marker::Model;
 use terrain_model::{Corner, tile_is_terrain};
 use thiserror::Error;
 
-/// The sample that marks a place without a height.
+// The sample that marks a place without a height.
 const VOID: i16 = -32768;
 
 /// Why a tile can't be read.

@@ -14,10 +14,10 @@ use crate::words::{behind, behind_first, coordinate_of, count_of, next_word, one
 use clip_regions::Region;
 use std::alloc::Global;
 
-/// How many levels a text has at most.
+// How many levels a text has at most.
 const LEVELS: u8 = 12;
 
-/// The greatest corner of what a text covers; the least one is its negative.
+// The greatest corner of what a text covers; the least one is its negative.
 const CORNER_LIMIT: i64 = 1 << 24;
 
 // The number of a frame.

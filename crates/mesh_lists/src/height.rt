@@ -7,10 +7,10 @@ ghost use Rattle.mesh_lists.specs.Says.{five_of, height_of, size_of};
 use crate::cut::{first_part, next_part};
 use crate::number::natural;
 
-/// The greatest size of a height, in metres.
+// The greatest size of a height, in metres.
 const METRES: u64 = 32_768;
 
-/// The greatest size of a height, in thirty-seconds of a metre.
+// The greatest size of a height, in thirty-seconds of a metre.
 const SIZE_LIMIT: u32 = 1 << 20;
 
 // Five digits, as the number that they make.

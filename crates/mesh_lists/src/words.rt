@@ -9,7 +9,7 @@ ghost use Rattle.mesh_lists.specs.Says.{behind, coordinate_of, count_of, one_num
 use crate::cut::{Cut, first_part, next_part};
 use crate::number::{natural, whole};
 
-/// The greatest coordinate; the least one is its negative.
+// The greatest coordinate; the least one is its negative.
 const COORDINATE_LIMIT: u32 = 1 << 24;
 
 /// The first word of a line, and what stands behind it, with the space before it.

@@ -34,7 +34,7 @@ impl Extent {
     ghost use Rattle.mosaic.specs.Extents.{extent_of_one, widened, IsExtent};
     ghost use Rattle.mosaic.specs.Painting.{IsPlacedIn};
 
-    /// The rectangle of one tile.
+    // The rectangle of one tile.
     #[tactic(auto, unfolding(crate::specs::Extents::extent_of_one))]
     fn of_one(tile: &HgtTile) -> Extent
         ensures value { result ≡ extent_of_one tile.now }
@@ -50,7 +50,7 @@ impl Extent {
         }
     }
 
-    /// The rectangle widened so that it holds another tile.
+    // The rectangle widened so that it holds another tile.
     #[tactic(auto, unfolding(crate::specs::Extents::widened))]
     fn widened(&self, tile: &HgtTile) -> Extent
         ensures value { result ≡ widened self.now tile.now }

@@ -14,7 +14,7 @@ use hgt_tiles::HgtTile;
 use std::alloc::{AllocError, Global};
 use std::cmp::Ordering;
 
-/// Does one tile lie north of another, or as far north and west of it?
+// Does one tile lie north of another, or as far north and west of it?
 #[tactic(auto, unfolding(terrain_model::specs::Mosaic::comes_before, hgt_tiles::specs::TileView::placed))]
 fn comes_before(tile: &HgtTile, other: &HgtTile) -> bool
     ensures { result ≡ comes_before (placed tile.now) (placed other.now) }
@@ -24,7 +24,7 @@ fn comes_before(tile: &HgtTile, other: &HgtTile) -> bool
     b.lat < a.lat || (!(a.lat < b.lat) && a.lon < b.lon)
 }
 
-/// The order in which tiles are painted: from the south, and of one latitude from the east.
+// The order in which tiles are painted: from the south, and of one latitude from the east.
 fn painting_order(tile: &HgtTile, other: &HgtTile) -> Ordering
     ensures { is_lt result ≡ comes_before (placed other.now) (placed tile.now) }
 {

@@ -70,8 +70,8 @@ fn run<R: Input + Print + AllocGlobal>(rt: &R) -> Result<(), Halt> {
     play_through(rt.alloc(), script.as_slice(), &mut log)
 }
 
-/// Ends with status 0 where the whole script was played, 1 where it is refused, 3 where a read of standard input
-/// failed, 4 where a write of standard output failed, and 5 where there was no memory.
+// Ends with status 0 where the whole script was played, 1 where it is refused, 3 where a read of standard input
+// failed, 4 where a write of standard output failed, and 5 where there was no memory.
 fn main(rt: HostRuntime) -> ExitCode {
     match run(&rt) {
         Ok(()) => ExitCode::SUCCESS,

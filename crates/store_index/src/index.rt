@@ -26,7 +26,7 @@ impl Model for BlockIndex {
     ghost view = { λ index. index.marks.items };
 }
 
-/// Puts an offset behind those that are there.
+// Puts an offset behind those that are there.
 fn push_mark(marks: &mut Vec<usize>, at: usize) -> Result<(), NoMemory>
     ensures { OnOk result (marks.new.items ≡ marks.old.items ++ at ∷ []) }
 {
@@ -36,7 +36,7 @@ fn push_mark(marks: &mut Vec<usize>, at: usize) -> Result<(), NoMemory>
     Ok(())
 }
 
-/// Appends the offsets behind 32 blocks, behind 64 and so on.
+// Appends the offsets behind 32 blocks, behind 64 and so on.
 fn push_marks(
     marks: &mut Vec<usize>,
     bytes: &[u8],
@@ -71,7 +71,7 @@ impl BlockIndex {
         Ok(BlockIndex { marks })
     }
 
-    /// The offset of a block that isn't more than 31 blocks before the one of this number.
+    // The offset of a block that isn't more than 31 blocks before the one of this number.
     fn mark_before(&self, bytes: &[u8], header: Header, number: u32) -> usize
         requires header { IsReadable header }
         requires index { IsIndexOf (head_of header) bytes.now self.now }

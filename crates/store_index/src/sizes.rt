@@ -8,7 +8,7 @@ ghost use Rattle.store_index.specs.Places.{blocks_before, block_total, IsPlaceOf
 use clip_regions::Region;
 use store_reader::Header;
 
-/// How many cells of a level, 0 to 11, lie in a side of so many samples.
+// How many cells of a level, 0 to 11, lie in a side of so many samples.
 #[tactic(auto, unfolding(store_model::specs::Sizes::cells_on))]
 fn cells_on(side: u32, level: u8) -> u32
     requires side { 1 ≤ side }
@@ -20,7 +20,7 @@ fn cells_on(side: u32, level: u8) -> u32
     ((side - 1) >> level) + 1
 }
 
-/// How many blocks of eight cells a side of so many cells meets.
+// How many blocks of eight cells a side of so many cells meets.
 #[tactic(auto, unfolding(store_model::specs::Sizes::blocks_on))]
 fn blocks_on(cells: u32) -> u32
     requires { 1 ≤ cells }
@@ -32,7 +32,7 @@ fn blocks_on(cells: u32) -> u32
     (cells - 1) / 8 + 1
 }
 
-/// How many blocks a level has.
+// How many blocks a level has.
 fn level_blocks(header: Header, level: u8) -> u32
     requires header { IsReadable header }
     requires level { level < header.levels }
@@ -44,7 +44,7 @@ fn level_blocks(header: Header, level: u8) -> u32
     across * down
 }
 
-/// How many blocks the `n` coarsest levels have.
+// How many blocks the `n` coarsest levels have.
 fn blocks_before(header: Header, n: u8) -> u32
     requires header { IsReadable header }
     requires few { n ≤ header.levels }
@@ -76,14 +76,14 @@ pub struct Place {
     pub cells: Region,
 }
 
-/// The lesser of two numbers.
+// The lesser of two numbers.
 fn lesser(a: u32, b: u32) -> u32
     ensures { result ≡ min a b }
 {
     if a < b { a } else { b }
 }
 
-/// The cells in the terrain of the block in column `bx` and row `by` of a level with so many columns and rows.
+// The cells in the terrain of the block in column `bx` and row `by` of a level with so many columns and rows.
 fn cells_of(bx: u32, by: u32, columns: u32, rows: u32) -> Region
     requires column { 8 * bx < columns }
     requires row { 8 * by < rows }
@@ -102,7 +102,7 @@ fn cells_of(bx: u32, by: u32, columns: u32, rows: u32) -> Region
     }
 }
 
-/// The number of the block in column `bx` and row `by` of a table with so many columns and rows of blocks.
+// The number of the block in column `bx` and row `by` of a table with so many columns and rows of blocks.
 fn number_in(bx: u32, by: u32, across: u32, down: u32) -> u32
     requires column { bx < across }
     requires row { by < down }
@@ -113,7 +113,7 @@ fn number_in(bx: u32, by: u32, across: u32, down: u32) -> u32
     by * across + bx
 }
 
-/// The number as an index of so many blocks, if it is one.
+// The number as an index of so many blocks, if it is one.
 fn index_in(b: i32, blocks: u32) -> Option<u32>
     requires { blocks ≤ 2 ^ 26 }
     ensures value { IfSome result (λ n. b ≡ pos n) }

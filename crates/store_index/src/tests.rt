@@ -2,7 +2,7 @@ use super::*;
 use clip_regions::Region;
 use store_reader::Header;
 
-/// 17 x 9 samples in two levels.
+// 17 x 9 samples in two levels.
 const HEADER: Header = Header {
     version: 1,
     width: 17,
@@ -11,13 +11,13 @@ const HEADER: Header = Header {
     step: 1,
 };
 
-/// The number and the cells of a block.
+// The number and the cells of a block.
 fn found(level: u8, bx: i32, by: i32) -> Option<(u32, Region)> {
     let place = find_block(HEADER, level, bx, by)?;
     Some((place.number, place.cells))
 }
 
-/// The cells from one to another.
+// The cells from one to another.
 fn region(x0: i32, y0: i32, x1: i32, y1: i32) -> Region {
     Region { x0, y0, x1, y1 }
 }

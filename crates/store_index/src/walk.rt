@@ -5,7 +5,7 @@ ghost use Rattle.store_index.specs.Places.{length_at, content_at, behind, AreThe
 
 use byteorder::{BigEndian, ByteOrder};
 
-/// The length of the block at an offset, in bytes.
+// The length of the block at an offset, in bytes.
 #[tactic(auto, unfolding(crate::specs::Places::length_at))]
 fn length_at(bytes: &[u8], at: usize) -> usize
     requires { at + 2 ≤ length bytes.now }
@@ -24,7 +24,7 @@ pub(crate) fn content_at(bytes: &[u8], at: usize) -> &[u8]
     &bytes[at + 2..at + 2 + length]
 }
 
-/// The offset behind the block at an offset.
+// The offset behind the block at an offset.
 fn next(bytes: &[u8], at: usize) -> usize
     requires { at + 2 + length_at bytes.now at ≤ length bytes.now }
     ensures { result ≡ at + 2 + length_at bytes.now at }

@@ -5,7 +5,7 @@ use height_pyramid::Grid;
 use std::test::Fail;
 use terrain_store::pack;
 
-/// A patch of block (0, 0) where no coarser heights are wanted.
+// A patch of block (0, 0) where no coarser heights are wanted.
 const NO_PATCH: Patch = Patch {
     i0: -1,
     j0: -1,

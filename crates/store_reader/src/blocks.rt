@@ -26,7 +26,7 @@ pub(crate) enum Source<'a> {
     Over(&'a Grid),
 }
 
-/// The heights of a level in a grid of its cells.
+// The heights of a level in a grid of its cells.
 #[derive(Clone, Copy)]
 struct Coarser<'a> {
     grid: &'a Grid,
@@ -60,7 +60,7 @@ pub(crate) fn content_at(bytes: &[u8], at: usize) -> Option<&[u8]>
     Some(&rest[2..2 + length])
 }
 
-/// The patch of a block over the heights of the next coarser level.
+// The patch of a block over the heights of the next coarser level.
 fn patch_over(grid: &Grid, bx: i32, by: i32) -> Patch
     requires west { pos 0 ≤ℤ bx }
     requires east { bx ≤ℤ pos (2 ^ 24) }
@@ -74,14 +74,14 @@ fn patch_over(grid: &Grid, bx: i32, by: i32) -> Patch
     patch_around(&Coarser { grid }, 4 * bx - 1, 4 * by - 1)
 }
 
-/// A patch where no coarser heights are wanted.
+// A patch where no coarser heights are wanted.
 const NO_PATCH: Patch = Patch {
     i0: 0,
     j0: 0,
     h: [[0; 7]; 7],
 };
 
-/// Writes the heights of a block that has them as they are.
+// Writes the heights of a block that has them as they are.
 fn plain_block(place: Place, step: u8, content: &[u8], out: &mut [i16]) -> Result<(), PieceFault>
     requires place { IsSoundPlace place }
     requires step { IsStep step }
@@ -101,7 +101,7 @@ fn plain_block(place: Place, step: u8, content: &[u8], out: &mut [i16]) -> Resul
     piece_heights(&block, &NO_PATCH, place.cells, out)
 }
 
-/// Writes the heights of a block that is a word of codes.
+// Writes the heights of a block that is a word of codes.
 fn word_block(
     place: Place,
     step: u8,

@@ -23,7 +23,7 @@ pub struct Header {
     pub step: u8,
 }
 
-/// Whether the first bytes, up to four, begin as those of a version do.
+// Whether the first bytes, up to four, begin as those of a version do.
 fn begins_as(bytes: &[u8], version: u8) -> bool
     requires { version ≤ 2 }
     ensures { IsTrue result ↔ BeginsAs version bytes.now }
@@ -33,7 +33,7 @@ fn begins_as(bytes: &[u8], version: u8) -> bool
     bytes[..length] == magic[..length]
 }
 
-/// The version as which the bytes begin: 1 or 2, and 1 where they may be both.
+// The version as which the bytes begin: 1 or 2, and 1 where they may be both.
 fn version_of(bytes: &[u8]) -> Option<u8>
     ensures known { IfSome result (λ version. (version ≡ 1) ⊎ (version ≡ 2)) }
     ensures begins { IfSome result (λ version. BeginsAs version bytes.now) }
@@ -48,7 +48,7 @@ fn version_of(bytes: &[u8]) -> Option<u8>
     None
 }
 
-/// What a whole header says, sound or not.
+// What a whole header says, sound or not.
 fn spelled_header(bytes: &[u8], version: u8) -> Header
     requires known { (version ≡ 1) ⊎ (version ≡ 2) }
     requires begins { BeginsAs version bytes.now }
@@ -65,14 +65,14 @@ fn spelled_header(bytes: &[u8], version: u8) -> Header
     }
 }
 
-/// Is the number one of samples that a side may have?
+// Is the number one of samples that a side may have?
 fn is_side(side: u32) -> bool
     ensures { IsTrue result ↔ IsSide side }
 {
     1 <= side && side <= 1 << 26
 }
 
-/// The first field that is out of its range, if there is one.
+// The first field that is out of its range, if there is one.
 fn bad_field(header: Header) -> Option<Field>
     requires known { ((header.version ≡ 1) × (header.step ≡ 1)) ⊎ (header.version ≡ 2) }
     ensures bad { IfSome result (λ field. IsBadField (head_of header) field) }

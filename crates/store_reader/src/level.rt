@@ -28,7 +28,7 @@ pub(crate) struct Reading<'a> {
     pub(crate) source: Source<'a>,
 }
 
-/// Reads block `k`, whose length stands at an offset, into the table of its level. Gives the offset behind it.
+// Reads block `k`, whose length stands at an offset, into the table of its level. Gives the offset behind it.
 fn read_block(
     reading: Reading<'_>,
     at: usize,
@@ -60,7 +60,7 @@ fn read_block(
     Ok(at + 2 + content.len())
 }
 
-/// Reads the blocks of a level into its table. Gives the offset behind the last one.
+// Reads the blocks of a level into its table. Gives the offset behind the last one.
 fn read_blocks(reading: Reading<'_>, start: usize, table: &mut [i16]) -> Result<usize, StoreFault>
     requires reading { IsReading reading.header reading.level reading.source }
     requires start { start ≤ length reading.bytes.now }

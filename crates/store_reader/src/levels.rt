@@ -26,7 +26,7 @@ pub struct StoredHeights {
     pub grid: Grid,
 }
 
-/// Reads the coarsest level.
+// Reads the coarsest level.
 fn read_coarsest(alloc: Global, bytes: &[u8], header: Header) -> Result<Reached, StoreFault>
     requires header { IsHeaderOf header bytes.now }
     ensures read { IfOk result (λ reached. LevelsRead (head_of header) 1 bytes.now reached.at reached.grid) }
@@ -44,7 +44,7 @@ fn read_coarsest(alloc: Global, bytes: &[u8], header: Header) -> Result<Reached,
     read_level(alloc, reading, 12 + usize::from(header.version))
 }
 
-/// Reads the level behind the `n` coarsest ones, over the last of them.
+// Reads the level behind the `n` coarsest ones, over the last of them.
 fn read_next(
     alloc: Global,
     bytes: &[u8],
@@ -71,7 +71,7 @@ fn read_next(
     read_level(alloc, reading, last.at)
 }
 
-/// Reads all levels of a store with this header.
+// Reads all levels of a store with this header.
 fn read_levels(alloc: Global, bytes: &[u8], header: Header) -> Result<Reached, StoreFault>
     requires header { IsHeaderOf header bytes.now }
     ensures read { IfOk result (λ reached.
@@ -91,7 +91,7 @@ fn read_levels(alloc: Global, bytes: &[u8], header: Header) -> Result<Reached, S
     Ok(reached)
 }
 
-/// Reads a store, or names its first fault.
+// Reads a store, or names its first fault.
 fn read_store(alloc: Global, bytes: &[u8]) -> Result<StoredHeights, StoreFault>
     ensures store { IfOk result (λ stored. IsStore (head_of stored.header) stored.grid bytes.now) }
     ensures fault { IfErr result (λ fault. (fault ≡ NoMemory) ⊎ HasStoreFault bytes.now fault) }

@@ -41,14 +41,14 @@ pub(crate) struct Place {
     pub(crate) cells: Region,
 }
 
-/// The lesser of two numbers.
+// The lesser of two numbers.
 fn lesser(a: u32, b: u32) -> u32
     ensures { result ≡ min a b }
 {
     if a < b { a } else { b }
 }
 
-/// The cells in the terrain of the block in column `bx` and row `by` of a level with so many columns and rows.
+// The cells in the terrain of the block in column `bx` and row `by` of a level with so many columns and rows.
 fn cells_of(bx: u32, by: u32, columns: u32, rows: u32) -> Region
     requires column { 8 * bx < columns }
     requires row { 8 * by < rows }
@@ -67,7 +67,7 @@ fn cells_of(bx: u32, by: u32, columns: u32, rows: u32) -> Region
     }
 }
 
-/// The quotient of a number that is below a product.
+// The quotient of a number that is below a product.
 fn row_in(k: u32, across: u32, down: u32) -> u32
     requires some { 1 ≤ across }
     requires inside { k < across * down }

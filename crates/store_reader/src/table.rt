@@ -32,7 +32,7 @@ pub(crate) fn span_of(place: Place) -> Span
     }
 }
 
-/// Puts `count` heights, from one place on, into a table, from another place on.
+// Puts `count` heights, from one place on, into a table, from another place on.
 fn put_row(table: &mut [i16], at: usize, heights: &[i16], from: usize, count: usize)
     requires table { at + count ≤ length table.old }
     requires heights { from + count ≤ length heights.now }

@@ -6,19 +6,19 @@ use std::alloc::Global;
 use std::test::Fail;
 use store_model::{Field, StoreFault};
 
-/// 3 x 3 samples, all 0 but the middle one of 30000, in two levels.
+// 3 x 3 samples, all 0 but the middle one of 30000, in two levels.
 const FIRST: [u8; 33] = [
     0x47, 0x43, 0x54, 0x31, 0, 0, 0, 3, 0, 0, 0, 3, 2, 0, 8, 0, 0, 0, 0, 0, 0, 0, 0, 0, 8, 0x03,
     0xff, 0xff, 0xff, 0xfc, 0xea, 0x60, 0x00,
 ];
 
-/// The same by steps of 3.
+// The same by steps of 3.
 const SECOND: [u8; 34] = [
     0x47, 0x43, 0x54, 0x32, 0, 0, 0, 3, 0, 0, 0, 3, 2, 3, 0, 8, 0, 0, 0, 0, 0, 0, 0, 0, 0, 8, 0x03,
     0xff, 0xff, 0xff, 0xfc, 0x4e, 0x20, 0x00,
 ];
 
-/// The first fault of bytes, or none where they are a store.
+// The first fault of bytes, or none where they are a store.
 fn fault_of(alloc: Global, bytes: &[u8]) -> Option<StoreFault> {
     match read_heights(alloc, bytes) {
         Ok(_) => None,
@@ -26,7 +26,7 @@ fn fault_of(alloc: Global, bytes: &[u8]) -> Option<StoreFault> {
     }
 }
 
-/// What a store's header says, and the heights of its terrain's first three columns and rows.
+// What a store's header says, and the heights of its terrain's first three columns and rows.
 fn stored(alloc: Global, bytes: &[u8]) -> Result<(Header, [[i16; 3]; 3]), StoreFault> {
     let StoredHeights { header, grid } = read_heights(alloc, bytes)?;
     let at = |x: i32, y: i32| grid.level_height(0, x, y);
@@ -38,7 +38,7 @@ fn stored(alloc: Global, bytes: &[u8]) -> Result<(Header, [[i16; 3]; 3]), StoreF
     Ok((header, heights))
 }
 
-/// A header of 3 x 3 samples and two levels.
+// A header of 3 x 3 samples and two levels.
 fn header(version: u8, step: u8) -> Header {
     Header {
         version,
@@ -49,7 +49,7 @@ fn header(version: u8, step: u8) -> Header {
     }
 }
 
-/// 3 x 3 heights of 0, but for the middle one.
+// 3 x 3 heights of 0, but for the middle one.
 fn middle(height: i16) -> [[i16; 3]; 3] {
     [[0, 0, 0], [0, height, 0], [0, 0, 0]]
 }
@@ -97,7 +97,7 @@ fn cut_files(rt: HostRuntime) {
     assert_eq!(rt; fault_of(alloc, b"GCT3"), Some(StoreFault::BadMagic));
 }
 
-/// The first file with one byte changed.
+// The first file with one byte changed.
 fn changed(place: usize, byte: u8) -> [u8; 33]
     requires { place < 33 }
 {
@@ -184,7 +184,7 @@ fn a_byte_more(rt: HostRuntime) -> Result<(), Fail> {
     Ok(())
 }
 
-/// 10 x 9 heights.
+// 10 x 9 heights.
 const HEIGHTS: [[i16; 10]; 9] = [
     [-90, -83, -62, -27, 22, 85, 162, 253, 358, 477],
     [-113, -103, -79, -41, 11, 62, 142, 236, 344, 466],
@@ -197,7 +197,7 @@ const HEIGHTS: [[i16; 10]; 9] = [
     [-274, -258, -243, -199, -156, -99, -13, 72, 186, 299],
 ];
 
-/// These heights in three levels, the finest of four blocks, as another program packed them.
+// These heights in three levels, the finest of four blocks, as another program packed them.
 const SLOPE: [u8; 117] = [
     0x47, 0x43, 0x54, 0x31, 0x00, 0x00, 0x00, 0x0a, 0x00, 0x00, 0x00, 0x09, 0x03, 0x00, 0x12, 0xff,
     0xa6, 0x00, 0x16, 0x01, 0x66, 0xff, 0x4a, 0xff, 0xbd, 0x01, 0x10, 0xfe, 0xee, 0xff, 0x64, 0x00,

@@ -39,7 +39,7 @@ pub(crate) fn code_at<F: Heights>(patch: &Patch, finer: &F, i: u32, j: u32, step
     code_by(patch, column, row, finer.height(column, row), step)
 }
 
-/// Puts the codes of row `j` of a block's cells.
+// Puts the codes of row `j` of a block's cells.
 fn push_row<F: Heights>(
     codes: &mut Residuals,
     patch: &Patch,
@@ -67,7 +67,7 @@ fn push_row<F: Heights>(
     }
 }
 
-/// The codes of a block's cells, row by row.
+// The codes of a block's cells, row by row.
 fn codes_of<F: Heights>(patch: &Patch, finer: &F, cells: Cells, step: u8) -> Residuals
     requires cells { AreCells cells }
     requires patch { IsPatchOf cells patch.now }
@@ -117,7 +117,7 @@ pub(crate) fn append_word<F: Heights, C: Heights>(
     append_entry(out, word.as_slice())
 }
 
-/// A height in its two bytes, the high one first.
+// A height in its two bytes, the high one first.
 #[inline]
 fn bytes_of(height: i16) -> [u8; 2]
     ensures { result ≡ signed_bytes height }
@@ -125,7 +125,7 @@ fn bytes_of(height: i16) -> [u8; 2]
     height.to_be_bytes()
 }
 
-/// The bytes of the height of a cell.
+// The bytes of the height of a cell.
 fn bytes_at<F: Heights>(finer: &F, i: u32, j: u32) -> [u8; 2]
     requires near_column { i ≤ 2 ^ 27 }
     requires near_row { j ≤ 2 ^ 27 }
@@ -134,7 +134,7 @@ fn bytes_at<F: Heights>(finer: &F, i: u32, j: u32) -> [u8; 2]
     bytes_of(finer.height(i as i32, j as i32))
 }
 
-/// Puts the heights of row `j` of a block's cells.
+// Puts the heights of row `j` of a block's cells.
 fn append_row<F: Heights>(
     out: &mut Vec<u8>,
     finer: &F,
@@ -152,7 +152,7 @@ fn append_row<F: Heights>(
     Ok(())
 }
 
-/// Puts the heights of a block's cells, row by row.
+// Puts the heights of a block's cells, row by row.
 fn append_rows<F: Heights>(out: &mut Vec<u8>, finer: &F, cells: Cells) -> Result<(), NoMemory>
     requires { AreCells cells }
     ensures { OnOk result (out.new.items

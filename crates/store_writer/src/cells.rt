@@ -15,7 +15,7 @@ pub(crate) struct Cells {
     pub(crate) rows: u32,
 }
 
-/// How many blocks of eight cells a side of so many cells meets.
+// How many blocks of eight cells a side of so many cells meets.
 #[tactic(auto, unfolding(store_model::specs::Sizes::blocks_on))]
 #[inline]
 fn blocks_on(cells: u32) -> u32

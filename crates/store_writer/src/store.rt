@@ -17,7 +17,7 @@ use height_pyramid::Grid;
 use rice_residuals::NoMemory;
 use std::alloc::Global;
 
-/// Puts the blocks of a level as heights, row by row.
+// Puts the blocks of a level as heights, row by row.
 fn append_heights(out: &mut Vec<u8>, grid: &Grid, level: u8) -> Result<(), NoMemory>
     requires { level ≤ 11 }
     ensures { OnOk result (out.new.items ≡ out.old.items
@@ -30,7 +30,7 @@ fn append_heights(out: &mut Vec<u8>, grid: &Grid, level: u8) -> Result<(), NoMem
     Ok(())
 }
 
-/// Puts the blocks of a level as words of codes over the coarser heights, row by row.
+// Puts the blocks of a level as words of codes over the coarser heights, row by row.
 fn append_words<C: Heights>(
     alloc: Global,
     out: &mut Vec<u8>,
@@ -53,7 +53,7 @@ fn append_words<C: Heights>(
     Ok(())
 }
 
-/// The canonical store of a grid, of either version.
+// The canonical store of a grid, of either version.
 fn store_of(
     alloc: Global,
     grid: &Grid,

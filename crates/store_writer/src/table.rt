@@ -28,7 +28,7 @@ pub(crate) struct Table {
     ghost narrow: { across ≤ 2 ^ 26 },
 }
 
-/// Where a table has a cell.
+// Where a table has a cell.
 #[tactic(auto, unfolding(crate::specs::Tables::table_place))]
 #[inline]
 fn table_place(across: usize, i: usize, j: usize) -> usize
@@ -40,7 +40,7 @@ fn table_place(across: usize, i: usize, j: usize) -> usize
     64 * (j / 8 * across + i / 8) + (8 * (j % 8) + i % 8)
 }
 
-/// The height at a place of a table, and 0 past its end.
+// The height at a place of a table, and 0 past its end.
 #[inline]
 fn height_or_zero(heights: &[i16], place: usize) -> i16
     ensures { result ≡ slice_index_or heights.now place (pos 0) }
@@ -69,7 +69,7 @@ impl Heights for Table {
     }
 }
 
-/// The height of a cell that its code gives.
+// The height of a cell that its code gives.
 fn coded_height<F: Heights>(patch: &Patch, finer: &F, i: u32, j: u32, step: u8) -> i16
     requires column { IsOfBlock patch.now.i0 (pos i) }
     requires row { IsOfBlock patch.now.j0 (pos j) }
@@ -83,7 +83,7 @@ fn coded_height<F: Heights>(patch: &Patch, finer: &F, i: u32, j: u32, step: u8) 
     bring(value_by(patch, i as i32, j as i32, code, step))
 }
 
-/// The restored height of a cell of a block, and 0 where the cell lies outside the terrain.
+// The restored height of a cell of a block, and 0 where the cell lies outside the terrain.
 fn restored_at<F: Heights, C: Heights>(
     patch: &Patch,
     finer: &F,
@@ -114,7 +114,7 @@ fn restored_at<F: Heights, C: Heights>(
     coded_height(patch, finer, i, j, step)
 }
 
-/// Puts a height behind those that are there.
+// Puts a height behind those that are there.
 #[inline]
 fn push_height(out: &mut Vec<i16>, height: i16) -> Result<(), NoMemory>
     ensures { OnOk result (out.new.items ≡ out.old.items ++ height ∷ []) }
@@ -125,7 +125,7 @@ fn push_height(out: &mut Vec<i16>, height: i16) -> Result<(), NoMemory>
     Ok(())
 }
 
-/// Puts the 64 restored heights of a block.
+// Puts the 64 restored heights of a block.
 fn append_restored<F: Heights, C: Heights>(
     out: &mut Vec<i16>,
     finer: &F,

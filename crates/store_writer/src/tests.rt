@@ -5,7 +5,7 @@ use height_pyramid::Grid;
 use std::alloc::Global;
 use std::test::Fail;
 
-/// Bytes in hexadecimal.
+// Bytes in hexadecimal.
 fn hex(alloc: Global, bytes: &[u8]) -> Result<String, Fail> {
     let mut text = String::new(alloc);
     for byte in bytes {
@@ -14,18 +14,18 @@ fn hex(alloc: Global, bytes: &[u8]) -> Result<String, Fail> {
     Ok(text)
 }
 
-/// A grid of 3 x 3 heights.
+// A grid of 3 x 3 heights.
 fn nine(alloc: Global, heights: [i16; 9]) -> Result<Grid, Fail> {
     let [a, b, c, d, e, f, g, h, i] = heights;
     Ok(Grid::new(3, 3, vec![in alloc; a, b, c, d, e, f, g, h, i]?))
 }
 
-/// All heights 0 but the middle one.
+// All heights 0 but the middle one.
 fn peak(alloc: Global, height: i16) -> Result<Grid, Fail> {
     nine(alloc, [0, 0, 0, 0, height, 0, 0, 0, 0])
 }
 
-/// 11 columns and 10 rows of heights that jump: column x and row y have (7919 x + 104729 y) mod 2001, less 1000.
+// 11 columns and 10 rows of heights that jump: column x and row y have (7919 x + 104729 y) mod 2001, less 1000.
 fn rough(alloc: Global) -> Result<Grid, Fail> {
     let mut heights = Vec::new(alloc);
     for k in 0..110u32 {
@@ -38,7 +38,7 @@ fn rough(alloc: Global) -> Result<Grid, Fail> {
     Ok(Grid::new(11, 10, heights))
 }
 
-/// The exact store of a grid, in hexadecimal.
+// The exact store of a grid, in hexadecimal.
 fn exact(alloc: Global, grid: &Grid, levels: u8) -> Result<String, Fail> {
     if levels < 1 || levels > 12 {
         return Err(Fail::new("no number of levels"));
@@ -46,7 +46,7 @@ fn exact(alloc: Global, grid: &Grid, levels: u8) -> Result<String, Fail> {
     hex(alloc, canonical_bytes(alloc, grid, levels)?.as_slice())
 }
 
-/// The store of a grid by a step, in hexadecimal.
+// The store of a grid by a step, in hexadecimal.
 fn by_step(alloc: Global, grid: &Grid, levels: u8, step: u8) -> Result<String, Fail> {
     if levels < 1 || levels > 12 || step % 2 == 0 {
         return Err(Fail::new("no number of levels or no step"));

@@ -20,7 +20,7 @@ pub(crate) fn most(grid: &Grid) -> i16
     grid.most()
 }
 
-/// How many cells of a level, 0 to 11, lie in a side of so many samples.
+// How many cells of a level, 0 to 11, lie in a side of so many samples.
 #[tactic(auto, unfolding(store_model::specs::Sizes::cells_on))]
 fn cells_on(side: u32, level: u8) -> u32
     requires side { 1 ≤ side }
@@ -32,7 +32,7 @@ fn cells_on(side: u32, level: u8) -> u32
     ((side - 1) >> level) + 1
 }
 
-/// How many blocks of eight cells a side of so many cells meets.
+// How many blocks of eight cells a side of so many cells meets.
 #[tactic(auto, unfolding(store_model::specs::Sizes::blocks_on))]
 fn blocks_on(cells: u32) -> u32
     requires { 1 ≤ cells }
@@ -42,7 +42,7 @@ fn blocks_on(cells: u32) -> u32
     (cells - 1) / 8 + 1
 }
 
-/// How many blocks a level, 0 to 11, has.
+// How many blocks a level, 0 to 11, has.
 #[tactic(auto, unfolding(store_model::specs::Sizes::block_count))]
 fn block_count(width: u32, height: u32, level: u8) -> u64
     requires some_columns { 1 ≤ width }

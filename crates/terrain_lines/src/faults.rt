@@ -7,7 +7,7 @@ use rice_residuals::BlockFault;
 use std::alloc::{AllocError, Global};
 use store_model::{Field, StoreFault};
 
-/// The line of a field of the header.
+// The line of a field of the header.
 fn field_line(alloc: Global, field: Field) -> Result<String, AllocError>
     ensures line { IfOk result (λ line. string_bytes line ≡ field_line field) }
 {
@@ -20,7 +20,7 @@ fn field_line(alloc: Global, field: Field) -> Result<String, AllocError>
     }
 }
 
-/// What is wrong with the bytes of a block.
+// What is wrong with the bytes of a block.
 fn block_name(fault: BlockFault) -> &'static str
     ensures value { result.now ≡ block_name fault }
 {
@@ -33,7 +33,7 @@ fn block_name(fault: BlockFault) -> &'static str
     }
 }
 
-/// The bit where it is, or how many bytes are too many.
+// The bit where it is, or how many bytes are too many.
 fn block_number(fault: BlockFault) -> u32
     ensures value { result ≡ block_number fault }
 {
@@ -46,7 +46,7 @@ fn block_number(fault: BlockFault) -> u32
     }
 }
 
-/// The line of a block.
+// The line of a block.
 fn block_line(
     alloc: Global,
     level: u8,

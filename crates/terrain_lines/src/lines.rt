@@ -35,7 +35,7 @@ pub fn tiles_line(alloc: Global, number: usize, side: u32, voids: u64) -> Result
     format!(in alloc; "tiles {number} side {side} voids {voids}\n")
 }
 
-/// The line of a store with so many blocks and bytes.
+// The line of a store with so many blocks and bytes.
 fn stored_line(
     alloc: Global,
     header: Header,

@@ -22,7 +22,7 @@ fn lines_of_a_terrain(rt: HostRuntime) -> Result<(), Fail> {
     Ok(())
 }
 
-/// 17 x 9 samples: 3 x 2 blocks at level 0, 2 x 1 at level 1, and 1 x 1 at level 2.
+// 17 x 9 samples: 3 x 2 blocks at level 0, 2 x 1 at level 1, and 1 x 1 at level 2.
 #[test]
 fn lines_of_a_store(rt: HostRuntime) -> Result<(), Fail> {
     let alloc = rt.alloc();

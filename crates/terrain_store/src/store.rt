@@ -62,7 +62,7 @@ pub(crate) fn keep(
     })
 }
 
-/// What the bytes of a block are at a level of so many.
+// What the bytes of a block are at a level of so many.
 fn kind_of(content: &[u8], level: u8, levels: u8) -> Kind<'_>
     requires { level < levels }
     ensures { IsKindOf result level levels content.now }

@@ -10,18 +10,18 @@ use std::mem::size_of;
 use std::snapshot::Snapshot;
 use std::test::Fail;
 
-/// 3 x 3 samples, all 0 but the middle one.
+// 3 x 3 samples, all 0 but the middle one.
 fn peak(alloc: Global, height: i16) -> Result<Grid, Fail> {
     Ok(Grid::new(3, 3, vec![in alloc; 0i16, 0, 0, 0, height, 0, 0, 0, 0]?))
 }
 
-/// The first file: the peak of 30000 metres in two levels.
+// The first file: the peak of 30000 metres in two levels.
 const FIRST: [u8; 33] = [
     0x47, 0x43, 0x54, 0x31, 0, 0, 0, 3, 0, 0, 0, 3, 2, 0, 8, 0, 0, 0, 0, 0, 0, 0, 0, 0, 8, 0x03,
     0xff, 0xff, 0xff, 0xfc, 0xea, 0x60, 0x00,
 ];
 
-/// The first heights of a terrain, row by row.
+// The first heights of a terrain, row by row.
 fn heights_of(grid: &Grid) -> [[i16; 3]; 3] {
     let at = |x: i32, y: i32| grid.level_height(0, x, y);
     [
@@ -68,7 +68,7 @@ fn a_store_by_steps_of_nine(rt: HostRuntime) -> Result<(), Fail> {
     Ok(())
 }
 
-/// The fault of bytes, or the number of blocks of a store.
+// The fault of bytes, or the number of blocks of a store.
 fn read(alloc: Global, bytes: Vec<u8>) -> Result<u64, StoreFault> {
     Ok(read_store(alloc, bytes)?.blocks())
 }
@@ -98,12 +98,12 @@ fn reads_bytes(rt: HostRuntime) -> Result<(), Fail> {
     Ok(())
 }
 
-/// The cells from one to another.
+// The cells from one to another.
 fn region(x0: i32, y0: i32, x1: i32, y1: i32) -> Region {
     Region { x0, y0, x1, y1 }
 }
 
-/// The bytes of a block.
+// The bytes of a block.
 fn content_of(block: Block<'_>) -> &[u8] {
     match block.kind {
         Kind::Outside => &[],
@@ -136,7 +136,7 @@ fn blocks_of_the_first_file(rt: HostRuntime) -> Result<(), Fail> {
     Ok(())
 }
 
-/// 300 columns and 100 rows of heights that jump: sample k has 7919 k mod 2001, less 1000.
+// 300 columns and 100 rows of heights that jump: sample k has 7919 k mod 2001, less 1000.
 fn rough(alloc: Global) -> Result<Grid, Fail> {
     let mut heights = Vec::new(alloc);
     for k in 0..30000u32 {
@@ -148,7 +148,7 @@ fn rough(alloc: Global) -> Result<Grid, Fail> {
     Ok(Grid::new(300, 100, heights))
 }
 
-/// The bytes of a block with their number before them, unless it has no cells.
+// The bytes of a block with their number before them, unless it has no cells.
 fn put_block(out: &mut Vec<u8>, block: Block<'_>) -> Result<(), Fail> {
     if matches!(block.kind, Kind::Outside) {
         return Ok(());
@@ -183,7 +183,7 @@ fn a_store_is_its_header_and_its_blocks(rt: HostRuntime) -> Result<(), Fail> {
     Ok(())
 }
 
-/// Takes what threads may share.
+// Takes what threads may share.
 fn shared<T: Send + Sync>(_value: &T) {}
 
 #[test]
@@ -195,7 +195,7 @@ fn threads_share_stores_and_shapes(rt: HostRuntime) -> Result<(), Fail> {
     Ok(())
 }
 
-/// The name of a shape's terrain, once more.
+// The name of a shape's terrain, once more.
 fn named(shape: &Shape) -> Snapshot<Shape>
     ensures { result.value ≡ shape.now }
 {
