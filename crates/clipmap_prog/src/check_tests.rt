@@ -1,11 +1,9 @@
 //! Worked examples of verdicts, over a shelf and a sink in memory.
-use crate::tests::{Aftermath, owned, ran_over, shelf_of};
+use crate::tests::{Aftermath, TILE, owned, ran_over, shelf_of};
 use crate::{TEXT_LIMIT, clipmap};
 use outer_shelf::{MemoryShelf, MemorySink, NoMemory, are_names_distinct};
 use std::alloc::{AllocError, Global};
 use std::thread::Threads;
-
-const TILE: &str = "N00E000.hgt";
 
 // The status and the output of a `check` of these bytes.
 fn judged<R: Threads + Sync + AllocGlobal>(rt: &R, text: &[u8]) -> Result<Aftermath, NoMemory> {

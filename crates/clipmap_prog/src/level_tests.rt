@@ -1,8 +1,6 @@
 //! Worked frames of several levels.
-use crate::tests::{Aftermath, line, ran_over};
+use crate::tests::{Aftermath, TILE, line, ran_over};
 use crate::tile_tests::sea;
-
-const TILE: &str = "N00E000.hgt";
 
 // Two whole windows over a flat tile: the first stitch is the triangle of the first three vertices.
 #[test]

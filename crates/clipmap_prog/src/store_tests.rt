@@ -1,14 +1,12 @@
 //! Worked examples of stores, over a shelf and a sink in memory.
 use crate::clipmap;
-use crate::tests::{owned, shelf_of};
+use crate::tests::{TILE, owned, shelf_of};
 use height_pyramid::Grid;
 use outer_shelf::{MemorySink, NoMemory};
 use std::alloc::Global;
 use std::thread::Threads;
 use store_reader::read_heights;
 use store_writer::canonical_bytes;
-
-const TILE: &str = "N00E000.hgt";
 
 // What a run over some files left: its status, what it wrote, and the file `o`.
 #[derive(Drop)]

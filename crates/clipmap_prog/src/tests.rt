@@ -9,7 +9,7 @@ use std::thread::Threads;
 // The 3 × 3 tile of the heights 1 to 9.
 const NINE: [u8; 18] = [0, 1, 0, 2, 0, 3, 0, 4, 0, 5, 0, 6, 0, 7, 0, 8, 0, 9];
 
-const TILE: &str = "N00E000.hgt";
+pub(crate) const TILE: &str = "N00E000.hgt";
 
 pub(crate) fn owned(alloc: Global, words: &[&str]) -> Result<Vec<String>, AllocError> {
     let mut all = Vec::new(alloc);

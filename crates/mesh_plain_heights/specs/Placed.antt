@@ -23,3 +23,10 @@ pub record IsSquarePlaced (cell : Cell) : Type 0 where
   pub north : IsPlacedAt cell.level cell.j
   pub east : IsPlacedAt cell.level (cell.i +ℤ pos 1)
   pub south : IsPlacedAt cell.level (cell.j +ℤ pos 1)
+
+-- a cell lies within 2^24 columns and rows of cell (0, 0)
+pub record IsNearCell (cell : Cell) : Type 0 where
+  pub west : neg_ℤ (pos (2 ^ 24)) ≤ℤ cell.i
+  pub east : cell.i ≤ℤ pos (2 ^ 24)
+  pub north : neg_ℤ (pos (2 ^ 24)) ≤ℤ cell.j
+  pub south : cell.j ≤ℤ pos (2 ^ 24)

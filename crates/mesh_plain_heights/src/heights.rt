@@ -6,7 +6,7 @@ ghost use Rattle.plan_model.specs.Limits.{IsSize};
 ghost use Rattle.plan_model.specs.Window.{blend_width};
 ghost use Rattle.terrain_model.specs.Terrain.{level_height};
 ghost use Rattle.mesh_model.specs.Height.{active_of, blended_height, blend_share, border_distance, lower_end, upper_end, vertex_height};
-ghost use Rattle.mesh_plain_heights.specs.Placed.{IsPlacedAt};
+ghost use Rattle.mesh_plain_heights.specs.Placed.{IsNearCell, IsPlacedAt};
 ghost use Rattle.mesh_plain_heights.specs.Drawn.{IsDrawnCell, blended_by, coarser_weight, own_weight};
 
 use crate::places::Cell;
@@ -17,10 +17,7 @@ use level_frame::blend_width;
 /// How far a cell lies inside the region's border.
 pub fn border_distance(region: &Region, cell: &Cell) -> i32
     requires region { IsWithin (2 ^ 24) region.now }
-    requires west { neg_ℤ (pos (2 ^ 24)) ≤ℤ cell.now.i }
-    requires east { cell.now.i ≤ℤ pos (2 ^ 24) }
-    requires north { neg_ℤ (pos (2 ^ 24)) ≤ℤ cell.now.j }
-    requires south { cell.now.j ≤ℤ pos (2 ^ 24) }
+    requires cell { IsNearCell cell.now }
 
     // It is the distance of the definition, and small.
     ensures value { result ≡ border_distance region.now cell.now.i cell.now.j }
@@ -37,10 +34,7 @@ pub fn border_distance(region: &Region, cell: &Cell) -> i32
 pub fn blend_share(k: u8, coarsest: bool, region: &Region, cell: &Cell) -> i32
     requires size { IsSize k }
     requires region { IsWithin (2 ^ 24) region.now }
-    requires west { neg_ℤ (pos (2 ^ 24)) ≤ℤ cell.now.i }
-    requires east { cell.now.i ≤ℤ pos (2 ^ 24) }
-    requires north { neg_ℤ (pos (2 ^ 24)) ≤ℤ cell.now.j }
-    requires south { cell.now.j ≤ℤ pos (2 ^ 24) }
+    requires cell { IsNearCell cell.now }
 
     // It is the share of the definition.
     ensures value { result ≡ blend_share k coarsest region.now cell.now.i cell.now.j }
