@@ -25,11 +25,18 @@ fn settle(rt: &impl Abort, book: &mut BookPlan, most: u32) -> u32 {
     pieces
 }
 
+// A plan is shared by threads with the book that has it.
+fn is_shared<T: Sync>(_value: &T) {}
+
+fn moves<T: Send>(_value: &T) {}
+
 #[test]
 fn the_greatest_book_is_settled(rt: HostRuntime) -> Result<(), Fail> {
     let Ok(mut book) = BookPlan::start(rt.alloc(), 8, 12) else {
         return Err("no memory".into());
     };
+    moves(&book);
+    is_shared(&book);
     // The window of a level has 33 times 33 pieces.
     assert_eq!(rt; settle(&rt, &mut book, 20000), 13068);
     assert_eq!(rt; take(&rt, &mut book, 0, Event::Claim), Answer::Idle);

@@ -117,16 +117,23 @@ fn compare(
 #[test]
 fn one_level(rt: HostRuntime) -> Result<(), Fail> {
     compare(&rt, rt.alloc(), 4, 1, 1, 10000)?;
-    compare(&rt, rt.alloc(), 5, 1, 2, 2000)
+    compare(&rt, rt.alloc(), 5, 1, 2, 10000)
 }
 
 #[test]
 fn some_levels(rt: HostRuntime) -> Result<(), Fail> {
-    compare(&rt, rt.alloc(), 4, 3, 3, 5000)?;
-    compare(&rt, rt.alloc(), 6, 2, 4, 500)
+    compare(&rt, rt.alloc(), 4, 3, 3, 10000)?;
+    compare(&rt, rt.alloc(), 6, 2, 4, 10000)
 }
 
 #[test]
 fn twelve_levels(rt: HostRuntime) -> Result<(), Fail> {
-    compare(&rt, rt.alloc(), 4, 12, 5, 3000)
+    compare(&rt, rt.alloc(), 4, 12, 5, 10000)?;
+    compare(&rt, rt.alloc(), 5, 12, 6, 10000)
+}
+
+#[test]
+fn great_windows(rt: HostRuntime) -> Result<(), Fail> {
+    compare(&rt, rt.alloc(), 7, 2, 7, 1000)?;
+    compare(&rt, rt.alloc(), 8, 3, 8, 500)
 }
