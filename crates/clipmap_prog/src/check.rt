@@ -1,11 +1,11 @@
 //! The command `check`.
 ghost use Rattle.std.specs.Prelude.{◌≡◌, ◌≤◌, ◌^◌, ◌⊎◌, IfOk, IfSome, length};
 ghost use Rattle.std.specs.FinMap as finite;
-ghost use Rattle.outer_shelf.specs.Counts.{Rose, one_more};
+ghost use Rattle.outer_shelf.specs.Counts.{Rose};
 ghost use Rattle.outer_shelf.specs.Outside.{ShelfTold};
 ghost use Rattle.mesh_check.specs.Verdict.{verdict};
 ghost use Rattle.clipmap_words.specs.Check.{check_view};
-ghost use Rattle.clipmap_prog.specs.Check.{check_actions, check_outcome, check_reading, judged, text_of_file};
+ghost use Rattle.clipmap_prog.specs.Check.{check_actions, check_outcome, judged, text_of_file};
 ghost use Rattle.clipmap_prog.specs.Promise.{Runs};
 ghost use Rattle.clipmap_prog.specs.Reading.{Finds, OnStop};
 ghost use Rattle.clipmap_prog.specs.Runs.{CallsWithin, HadReason, Ran, leaves_nothing};
