@@ -1,0 +1,4 @@
+pub mod Core
+pub mod States
+pub mod Claims
+pub mod Starts
