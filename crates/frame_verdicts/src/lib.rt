@@ -4,5 +4,7 @@
 #![tactic(auto)]
 
 mod laws;
+#[cfg(test)]
+mod tests;
 
 pub use laws::{frame_texts_are_judged_watertight, meshes_are_judged_watertight};

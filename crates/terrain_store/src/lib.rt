@@ -11,6 +11,7 @@ mod store;
 #[cfg(test)]
 mod tests;
 
+pub use block_heights::{Block, Kind};
 pub use packing::{pack, pack_by};
 pub use reading::read_store;
 pub use rice_residuals::NoMemory;
