@@ -24,7 +24,7 @@ use Rattle.plan_model.specs.declared.events.JobNote.{JobNote}
 use Rattle.plan_model.specs.declared.events.Work.TheVariants.{Free, Fills}
 use Rattle.plan_model.specs.declared.events.Event.TheVariants.{Claim}
 use Rattle.plan_model.specs.declared.events.Answer.{Answer}
-use Rattle.plan_model.specs.declared.events.Answer.TheVariants.{Idle, Busy, Held, HasWork, Job}
+use Rattle.plan_model.specs.declared.events.Answer.TheVariants.{Idle, Ripe, Busy, Held, HasWork, Job}
 use Rattle.plan_laws.specs.Tiles.{TilesMetByCells}
 use Rattle.plan_laws.specs.Needs.{NeedsAreMonotone}
 use Rattle.plan_laws.specs.Pieces.{PiecesHaveCells, PiecesInRegion}
@@ -83,44 +83,49 @@ offered st offer e =
 abbrev Refuses : Answer → Type 0
 Refuses answer = is_refusal answer ≡ true
 
-abbrev AllRefuse : Option Answer → Type 0
-AllRefuse None = Unit {0}
-AllRefuse (Some answer) = Refuses answer
+-- what holds of each answer that a claim can have where nothing is offered
+module _ (P : Answer → Type 0) (idle : P Idle) (ripe : (level : ℕ) → P (Ripe level)) (busy : (level : ℕ) (t : TileId) (frame : ℕ) → P (Busy level t frame)) (held : (level : ℕ) (t : TileId) (p : ℕ) → P (Held level t p)) where
+  abbrev OfSome : Option Answer → Type 0
+  OfSome None = Unit {0}
+  OfSome (Some answer) = P answer
 
-of_first : (a b : Option Answer) → AllRefuse a → AllRefuse b → AllRefuse (option_or a b)
-of_first None b h l = l
-of_first (Some answer) b h l = h
+  of_first : (a b : Option Answer) → OfSome a → OfSome b → OfSome (option_or a b)
+  of_first None b h l = l
+  of_first (Some answer) b h l = h
 
-of_default : (a : Option Answer) → AllRefuse a → Refuses (unwrap_or a Idle)
-of_default None h = refl
-of_default (Some other) h = h
+  of_default : (a : Option Answer) → OfSome a → P (unwrap_or a Idle)
+  of_default None h = idle
+  of_default (Some other) h = h
 
-of_made : {X : Type 0} (make : X → Answer) (o : Option X) → ((x : X) → Refuses (make x)) → AllRefuse (option_map make o)
-of_made make None each = tt
-of_made make (Some x) each = each x
+  of_made : {X : Type 0} (make : X → Answer) (o : Option X) → ((x : X) → P (make x)) → OfSome (option_map make o)
+  of_made make None each = tt
+  of_made make (Some x) each = each x
 
-of_next : {X : Type 0} (make : X → Option Answer) (o : Option X) → ((x : X) → AllRefuse (make x)) → AllRefuse (option_and_then make o)
-of_next make None each = tt
-of_next make (Some x) each = each x
+  of_next : {X : Type 0} (make : X → Option Answer) (o : Option X) → ((x : X) → OfSome (make x)) → OfSome (option_and_then make o)
+  of_next make None each = tt
+  of_next make (Some x) each = each x
 
-held_refuses : (st : State) (level : ℕ) (t : TileId) → AllRefuse (held_answer st level t)
-held_refuses st level t = of_made (Held level t) (holder st level t) (λ _. refl)
+  of_held : (st : State) (level : ℕ) (t : TileId) → OfSome (held_answer st level t)
+  of_held st level t = of_made (Held level t) (holder st level t) (held level t)
 
-blocked_refuses : (st : State) (level : ℕ) (piece : Piece) → AllRefuse (blocked st level piece)
-blocked_refuses st level piece =
-    of_first (held_answer st level (tile_of_piece st piece)) (option_or (busy_answer st level (tile_of_piece st piece)) (needed_answer st level piece)) (held_refuses st level (tile_of_piece st piece)) (of_first (busy_answer st level (tile_of_piece st piece)) (needed_answer st level piece) (of_made (Busy level (tile_of_piece st piece)) (pinner st level (tile_of_piece st piece)) (λ _. refl)) (of_next (held_answer st (level + 1)) (first_of (held_needs st level piece)) (held_refuses st (level + 1))))
+  of_blocked : (st : State) (level : ℕ) (piece : Piece) → OfSome (blocked st level piece)
+  of_blocked st level piece =
+      of_first (held_answer st level (tile_of_piece st piece)) (option_or (busy_answer st level (tile_of_piece st piece)) (needed_answer st level piece)) (of_held st level (tile_of_piece st piece)) (of_first (busy_answer st level (tile_of_piece st piece)) (needed_answer st level piece) (of_made (Busy level (tile_of_piece st piece)) (pinner st level (tile_of_piece st piece)) (busy level (tile_of_piece st piece))) (of_next (held_answer st (level + 1)) (first_of (held_needs st level piece)) (of_held st (level + 1))))
 
-stuck_refuses : (st : State) (level : ℕ) (piece : Option Piece) → Refuses (ripe_or_blocked st level piece)
-stuck_refuses st level None = refl
-stuck_refuses st level (Some piece) = of_default (blocked st level piece) (blocked_refuses st level piece)
+  of_stuck : (st : State) (level : ℕ) (piece : Option Piece) → P (ripe_or_blocked st level piece)
+  of_stuck st level None = ripe level
+  of_stuck st level (Some piece) = of_default (blocked st level piece) (of_blocked st level piece)
 
-idle_refuses : (st : State) (level : Option ℕ) → Refuses (idle_or_stuck st level)
-idle_refuses st None = refl
-idle_refuses st (Some level) = stuck_refuses st level (first_of (unfinished_pieces st level))
+  of_idle : (st : State) (level : Option ℕ) → P (idle_or_stuck st level)
+  of_idle st None = idle
+  of_idle st (Some level) = of_stuck st level (first_of (unfinished_pieces st level))
+
+  pub of_no_offer : (st : State) → P (no_offer st)
+  unfolding no_offer
+  of_no_offer st = of_idle st (first_of (filter (λ level. not (is_whole st level)) (used_from_coarsest st)))
 
 no_offer_refuses : (st : State) → Refuses (no_offer st)
-unfolding no_offer
-no_offer_refuses st = idle_refuses st (first_of (filter (λ level. not (is_whole st level)) (used_from_coarsest st)))
+no_offer_refuses st = of_no_offer Refuses refl (λ _. refl) (λ _ _ _. refl) (λ _ _ _. refl) st
 
 no_job_refuses : (P : Type 0) (answer : Answer) (job : JobNote) → Refuses answer → answer ≡ job_answer job → P
 no_job_refuses P answer job r e = absurd (true≢false (sym r ∙ ap is_refusal e))
@@ -191,7 +196,7 @@ unfolding floor_rem
 rem_below (pos n) d h = omega arith
 rem_below (negsuc n) d h = omega arith
 
-block_there : (k : ℕ) (bx by : ℤ) → 4 ≤ k → has_tile k (tile_of k bx by) ≡ true
+pub block_there : (k : ℕ) (bx by : ℤ) → 4 ≤ k → has_tile k (tile_of k bx by) ≡ true
 unfolding has_tile tile_of
 block_there k bx by h =
     and_from (nat_lt (floor_rem bx (tiles_per_side k)) (tiles_per_side k)) (nat_lt (floor_rem by (tiles_per_side k)) (tiles_per_side k)) (less_of (floor_rem bx (tiles_per_side k)) (tiles_per_side k) (rem_below bx (tiles_per_side k) (some_tiles k h))) (less_of (floor_rem by (tiles_per_side k)) (tiles_per_side k) (rem_below by (tiles_per_side k) (some_tiles k h)))

@@ -1,4 +1,4 @@
--- The heights that a book keeps: those of each level's tiles that are at home, and those that a pass's tile had as it was handed out.
+-- The heights that a book keeps: those of each level's tiles at home, and those of a pass's tile as it was handed out.
 use Rattle.std.specs.Prelude.{◌≡◌, ℕ, ◌<◌, ℤ, List, length, Option, Some, None, is_some, IsTrue}
 use Rattle.clip_regions.specs.declared.region.Region.{Region}
 use Rattle.terrain_model.specs.Terrain.{Terrain, level_height}
@@ -14,24 +14,28 @@ use Rattle.plan_holds.specs.Changes.{IsDone}
 use Rattle.torus_grid.specs.Grids.{has_tile}
 use Rattle.torus_grid.specs.Places.{tile_height, IsFree}
 
--- the 64 heights of a level's tile while it is at home, and the 64 of the tile that a pass with a job has, as it was handed out
+-- the 64 heights of a level's tile while it is at home, and those of the tile of a pass's job as it was handed out
 pub record Cells : Type 0 where
   pub home : ℕ → TileId → Option (List ℤ)
   pub handed : ℕ → List ℤ
 
 -- a cell has the terrain's level height at its wrapped place: in its tile at home, or in the tile as it was handed out
 pub record HasHeight (terrain : Terrain) (st : State) (cells : Cells) (level : ℕ) (i j : ℤ) : Type 0 where
-  pub home : (heights : List ℤ) → cells.home level (tile_of_cell st.k i j) ≡ Some heights → tile_height heights i j ≡ level_height terrain level i j
-  pub out : (p : ℕ) (job : JobNote) → HasJob st p job → job.level ≡ level → tile_of_piece st job.piece ≡ tile_of_cell st.k i j → tile_height (cells.handed p) i j ≡ level_height terrain level i j
+  pub home : (heights : List ℤ) → cells.home level (tile_of_cell st.k i j) ≡ Some heights →
+      tile_height heights i j ≡ level_height terrain level i j
+  pub out : (p : ℕ) (job : JobNote) → HasJob st p job → job.level ≡ level →
+      tile_of_piece st job.piece ≡ tile_of_cell st.k i j → tile_height (cells.handed p) i j ≡ level_height terrain level i j
 
 -- what is true of the heights between any two events
 pub record HasCells (terrain : Terrain) (st : State) (cells : Cells) : Type 0 where
   -- a tile that no pass holds is at home, and the tile of each job is out
-  pub home : (level : ℕ) (t : TileId) → level < length st.levels → IsTrue (has_tile st.k t) → ¬ IsHeld st level t → IsTrue (is_some (cells.home level t))
+  pub home : (level : ℕ) (t : TileId) → level < length st.levels → IsTrue (has_tile st.k t) → ¬ IsHeld st level t →
+      IsTrue (is_some (cells.home level t))
   pub out : (p : ℕ) (job : JobNote) → HasJob st p job → cells.home job.level (tile_of_piece st job.piece) ≡ None
   -- each cell that is filled or finished has its height, and so has each that an open frame draws
   pub done : (level : ℕ) (i j : ℤ) → IsDone st level i j → HasHeight terrain st cells level i j
-  pub drawn : (p : ℕ) (frame : OpenFrame) (level : ℕ) (i j : ℤ) → HasFrame st p frame → HasCell (active_in frame level) i j → HasHeight terrain st cells level i j
+  pub drawn : (p : ℕ) (frame : OpenFrame) (level : ℕ) (i j : ℤ) → HasFrame st p frame →
+      HasCell (active_in frame level) i j → HasHeight terrain st cells level i j
 
 -- a tile is another than that of a level
 abbrev pub IsOther : ℕ → TileId → ℕ → TileId → Type 0

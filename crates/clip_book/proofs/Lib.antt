@@ -1,0 +1,6 @@
+pub mod SeenRows
+pub mod Paints
+pub mod AnswersOf
+pub mod Standing
+pub mod Claiming
+pub mod Listed
