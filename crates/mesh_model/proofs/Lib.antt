@@ -11,3 +11,6 @@ pub mod Named
 pub mod Tallies
 pub mod Apart
 pub mod Weights
+pub mod Sides
+pub mod Outside
+pub mod NewPlaces

@@ -6,6 +6,7 @@ pub mod Rings
 pub mod Conditions
 pub mod Text
 pub mod Seen
+pub mod Dropped
 pub mod Watertight
 pub mod OneLevel
 pub mod Nested

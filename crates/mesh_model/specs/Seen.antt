@@ -1,5 +1,5 @@
 -- The text of the parts of a frame that a view keeps. A view is a list of half-spaces, at most six.
-use Rattle.std.specs.Prelude.{ℕ, Bool, not, ◌&&◌, ◌==◌, ℤ, pos, ◌+ℤ◌, ◌*ℤ◌, List, ◌++◌, length, map, filter, flat_map, codes, decimal, int_lt, slice_index_or}
+use Rattle.std.specs.Prelude.{ℕ, Bool, not, ◌&&◌, ◌==◌, ℤ, pos, ◌+ℤ◌, ◌*ℤ◌, List, [], ◌∷◌, ◌++◌, length, map, filter, flat_map, codes, decimal, int_lt, slice_index_or, if◌then◌else◌}
 use Rattle.std.specs.List.{range_with_len, list_any}
 use Rattle.clip_regions.specs.declared.region.Region.{Region}
 use Rattle.mesh_model.specs.declared.shapes.Vertex.{Vertex}
@@ -26,13 +26,24 @@ is_box_outside space box =
     let edge = λ (height z : ℤ). out box.x0 height z && out box.x1 height z in
     (edge box.low box.z0 && edge box.high box.z0) && (edge box.low box.z1 && edge box.high box.z1)
 
--- the box of the part lies outside no half-space of the view
-unfoldable pub is_kept : List HalfSpace → Part → Bool
-is_kept view part = not (list_any (λ space. is_box_outside space part.bounds) view)
+-- the box lies outside no half-space of the view
+unfoldable pub is_box_kept : List HalfSpace → Bounds → Bool
+is_box_kept view box = not (list_any (λ space. is_box_outside space box) view)
+
+-- the view keeps the part
+abbrev pub is_kept : List HalfSpace → Part → Bool
+is_kept view part = is_box_kept view part.bounds
 
 -- the parts that the view keeps, in their order
 abbrev pub kept_parts : List HalfSpace → List Part → List Part
 kept_parts view parts = filter (is_kept view) parts
+
+-- the parts whose flag is set, where each part has a flag, in their order
+abbrev pub flagged_parts : List Bool → List Part → List Part
+flagged_parts [] parts = []
+flagged_parts (flag ∷ flags) [] = []
+flagged_parts (flag ∷ flags) (part ∷ parts) =
+    if flag then part ∷ flagged_parts flags parts else flagged_parts flags parts
 
 -- the triangles of some parts of a mesh
 abbrev pub triangles_of_parts : List (List ℕ) → List Part → List (List ℕ)
@@ -49,6 +60,13 @@ named_places triangles count = filter (is_named triangles) (range_with_len 0 cou
 -- a place numbered anew: how many of the places before it the triangles have
 unfoldable pub new_place : List (List ℕ) → ℕ → ℕ
 new_place triangles place = length (named_places triangles place)
+
+-- how many vertices some parts of a mesh have, each counted once, and how many triangles
+abbrev pub seen_vertices : MeshLists → List Part → ℕ
+seen_vertices lists parts = length (named_places (triangles_of_parts lists.triangles parts) (length lists.vertices))
+
+abbrev pub seen_triangles : MeshLists → List Part → ℕ
+seen_triangles lists parts = length (triangles_of_parts lists.triangles parts)
 
 -- `# kept P of Q`
 unfoldable pub kept_line : ℕ → ℕ → List ℕ

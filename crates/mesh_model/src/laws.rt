@@ -2,6 +2,7 @@
 //! is the law.
 
 ghost use Rattle.mesh_model.specs.Laws.{OneLevelVertices, OneLevelPlaces, OneLevelTriangles, OneLevelParts, OneLevelVertexCount, OneLevelTriangleCount, OneLevelNames, BoxHolds, PartsCover, PartsAreBounded, NestedNames, VerticesApart, OwnPlaces, NestedVertexCount, NestedTriangleCount, DrawnNames, DrawnApart};
+ghost use Rattle.mesh_model.specs.Dropped.{DroppedOutside, DroppedUnseen, FlagsKeep};
 
 use plan_model::{actives_are_nested, actives_have_even_corners};
 
@@ -59,3 +60,14 @@ pub fn drawn_mesh()
     nested_names();
     vertices_apart();
 }
+
+/// All of a part that a view drops lies outside one half-space of the view, so that no point of its triangles is seen.
+pub fn dropped_parts_are_unseen()
+    ensures outside { DroppedOutside }
+    ensures unseen { DroppedUnseen }
+{}
+
+/// Flags that say of each part whether a view keeps it pick the parts that the view keeps.
+pub fn flags_keep_parts()
+    ensures { FlagsKeep }
+{}

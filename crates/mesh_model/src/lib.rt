@@ -8,7 +8,7 @@ mod laws;
 mod shapes;
 
 pub use laws::{
-    box_holds, drawn_mesh, nested_counts, nested_names, one_level_counts, one_level_mesh,
-    parts_of_mesh, vertices_apart,
+    box_holds, drawn_mesh, dropped_parts_are_unseen, flags_keep_parts, nested_counts, nested_names,
+    one_level_counts, one_level_mesh, parts_of_mesh, vertices_apart,
 };
 pub use shapes::{Bounds, HalfSpace, Part, PartKind, Vertex};

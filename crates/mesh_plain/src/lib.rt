@@ -25,7 +25,7 @@ pub use mesh_plain_heights::{
     Cell, Position, blend_share, blend_width, border_distance, corner_place, lower_end, place_of,
     position_of, spacing, upper_end, vertex_height,
 };
-pub use mesh_plain_texts::{Head, frame_text, is_kept, is_outside, seen_text};
+pub use mesh_plain_texts::{Head, frame_text, is_kept, seen_text};
 pub use meshes::{PlainMesh, listed_parts, mesh, mesh_of_parts, part_at};
 pub use parts::PlainPart;
 pub use region_parts::parts_of_regions;

@@ -7,7 +7,7 @@ mod lines;
 mod seen;
 mod texts;
 
-pub use half_spaces::{is_kept, is_outside};
+pub use half_spaces::is_kept;
 pub use seen::seen_text;
 pub use texts::{Head, frame_text};
 

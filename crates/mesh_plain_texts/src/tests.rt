@@ -1,6 +1,6 @@
-//! Worked examples of texts and boxes.
+//! Worked examples of texts.
 
-use crate::{Head, frame_text, is_outside, seen_text};
+use crate::{Head, frame_text, seen_text};
 use clip_regions::Region;
 use mesh_model::{Bounds, HalfSpace, Part, PartKind, Vertex};
 use std::test::Fail;
@@ -113,24 +113,4 @@ fn prints_kept_parts(rt: HostRuntime) -> Result<(), Fail> {
         b"# clipmap frame 7\n# viewer 1 -1\n# level 0 empty\n# level 1 active 0 0 1 1\n# kept 1 of 2\nv 0 93.90625 0\nv 2 11.50000 0\nv 2 -0.03125 2\nf 1 3 2\n";
     assert_eq!(rt; text.as_slice(), wanted.as_slice());
     Ok(())
-}
-
-#[test]
-fn drops_boxes(rt: HostRuntime) {
-    let east = HalfSpace {
-        a: 1,
-        b: 0,
-        c: 0,
-        d: -2,
-    };
-    let above = HalfSpace {
-        a: 0,
-        b: 1,
-        c: 0,
-        d: -94,
-    };
-    assert_eq!(rt;
-        (is_outside(&east, &BOX), is_outside(&above, &BOX)),
-        (false, true)
-    );
 }

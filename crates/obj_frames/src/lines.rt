@@ -3,6 +3,7 @@
 ghost use Rattle.std.specs.Prelude.{◌≡◌, ◌+◌, ◌*◌, ◌<◌, ◌++◌, OnOk, List, decimal, true, ◌↔◌};
 ghost use Rattle.std.specs.Fmt.{signed_decimal};
 ghost use Rattle.mesh_model.specs.Text.{frame_line, viewer_line, level_line, region_text, sign_text, five_digits, height_text, vertex_line, triangle_line};
+ghost use Rattle.mesh_model.specs.Seen.{kept_line};
 ghost use Rattle.obj_frames.specs.Digits.{HasSix, numbers_line, six_digits, three_digits};
 
 use crate::memory::NoMemory;
@@ -221,5 +222,21 @@ pub(crate) fn append_level(
     append(text, b"# level ")?;
     append_number(text, digits, u64::from(level))?;
     append_region(text, digits, active)?;
+    append(text, b"\n")
+}
+
+// Appends the line that says how many of the parts are kept.
+pub(crate) fn append_kept(
+    text: &mut Vec<u8>,
+    digits: &mut Buffer,
+    kept: u64,
+    whole: u64,
+) -> Result<(), NoMemory>
+    ensures { OnOk result (text.new.items ≡ text.old.items ++ kept_line kept whole) }
+{
+    append(text, b"# kept ")?;
+    append_number(text, digits, kept)?;
+    append(text, b" of ")?;
+    append_number(text, digits, whole)?;
     append(text, b"\n")
 }

@@ -35,7 +35,11 @@ fn append_levels(text: &mut Vec<u8>, digits: &mut Buffer, actives: &Actives) -> 
 }
 
 // Appends the lines at the head.
-fn append_head(text: &mut Vec<u8>, digits: &mut Buffer, header: &Header) -> Result<(), NoMemory>
+pub(crate) fn append_head(
+    text: &mut Vec<u8>,
+    digits: &mut Buffer,
+    header: &Header,
+) -> Result<(), NoMemory>
     ensures { OnOk result (text.new.items
         ≡ text.old.items ++ head_text header.now.number header.now.x header.now.y header.now.actives) }
 {

@@ -1,7 +1,7 @@
 -- A place that the triangles have is counted, and another is not.
 use Rattle.std.proofs.Common.{◌≡◌, true, false, sym, ◌∙◌, arith}
 use Rattle.mesh_model.specs.Seen.{is_named}
-use Rattle.mesh_plain_texts.proofs.Named.{no_place, place_more, place_same}
+use Rattle.mesh_model.proofs.NewPlaces.{no_place, place_more, place_same}
 use Rattle.mesh_plain_texts.proofs.seen.new_place.Goals as goal
 use Rattle.mesh_plain_texts.proofs.seen.new_place.Goals.{then-is_named, else-is_named}
 

@@ -1,5 +1,6 @@
 -- Which places triangles have.
 use Rattle.std.proofs.Common.{◌≡◌, ℕ, ◌+◌, Bool, true, false, List, [], ◌∷◌, ◌++◌, length, sym, refl, ap, ◌∙◌, length-append, arith}
+use Rattle.std.specs.Prelude.{if◌then◌else◌}
 use Rattle.std.specs.List.{filter, range_with_len}
 use Rattle.std.proofs.lemmas.List.Elements.{filter-append}
 use Rattle.mesh_model.specs.Seen.{is_named, named_places, new_place}
@@ -30,3 +31,9 @@ place_more triangles n e = one_more (is_named triangles) n ∙ rw e refl
 pub place_same : (triangles : List (List ℕ)) (n : ℕ) → is_named triangles n ≡ false → new_place triangles (n + 1) ≡ new_place triangles n
 unfolding new_place named_places
 place_same triangles n e = one_more (is_named triangles) n ∙ rw e (omega arith)
+
+-- the named places below one number more
+pub named_more : (triangles : List (List ℕ)) (n : ℕ) → named_places triangles (n + 1) ≡ named_places triangles n ++ (if is_named triangles n then n ∷ [] else [])
+unfolding named_places
+named_more triangles n =
+    ap (filter (is_named triangles)) (counting_more n) ∙ filter-append (is_named triangles) (range_with_len 0 n) (n ∷ [])

@@ -2,9 +2,9 @@
 use Rattle.std.proofs.Common.{◌≡◌, ℤ, pos, ◌+ℤ◌, ◌*ℤ◌, ◌^◌, ◌∙◌, w32, w64, arith, rules}
 use Rattle.std.proofs.lemmas.Int.{ints, to_z-of_z}
 use Rattle.mesh_model.specs.Seen.{corner_value}
-use Rattle.mesh_plain_texts.specs.Products.{LiesWithin}
-use Rattle.mesh_plain_texts.proofs.Products.{sum_read, first_sum_fits, sum_fits}
-use Rattle.mesh_plain_texts.proofs.half_spaces.corner_value.Goals as goal
+use Rattle.region_cull.specs.Views.{IsNearZero}
+use Rattle.region_cull.proofs.Products.{sum_read, first_sum_fits, sum_fits}
+use Rattle.region_cull.proofs.half_spaces.corner_value.Goals as goal
 use mir.Val.{to_z, of_z, SFits}
 
 pub overflow_mul-result : goal.overflow_mul-result
@@ -20,7 +20,7 @@ pub overflow_add-result-2 : goal.overflow_add-result-2
 overflow_add-result-2 c =
     first_sum_fits c.product-across.result c.product-up.result c.product-down.result c.product-across.ensures.small c.product-up.ensures.small c.product-down.ensures.small
 
-alone : (r d : ℤ) → SFits w64 d → r ≡ to_z w64 (of_z w64 d) → LiesWithin (2 ^ 63) r
+alone : (r d : ℤ) → SFits w64 d → r ≡ to_z w64 (of_z w64 d) → IsNearZero (2 ^ 63) r
 alone r d fits e =
     let same : r ≡ d = e ∙ to_z-of_z w64 d fits in
     record { low = omega (arith, ints, fits); high = omega (arith, ints, fits) }
