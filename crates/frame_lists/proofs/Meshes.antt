@@ -15,7 +15,7 @@ use Rattle.plan_model.specs.Window.{margin, IsInReach}
 use Rattle.plan_model.proofs.ActiveLaws.{even_if_cell}
 use Rattle.active_region.specs.Active.{IsWide, IsWideOrEmpty, AreActive}
 use Rattle.terrain_model.specs.Terrain.{Terrain, IsTerrain}
-use Rattle.mesh_model.specs.Height.{active_of}
+use Rattle.mesh_model.specs.Height.{active_at}
 use Rattle.mesh_model.specs.Laws.{NestedNames, VerticesApart, OwnPlaces}
 use Rattle.mesh_model.specs.Mesh.{mesh, mesh_of_parts}
 use Rattle.mesh_model.specs.Vertices.{LevelCell, hole, cells_outside, listed_from, listed_vertices, vertex_at, mesh_vertices}
@@ -98,7 +98,7 @@ scaled_near r level low reach (inr wide) =
     }
 
 covered_near : ActivesReach → (actives : List Region) → AreActive actives → IsWithin (2 ^ 24) (covered actives)
-unfolding covered active_of
+unfolding covered active_at
 covered_near reaches actives active =
     let some = active.drawn.many.low in
     let many = active.drawn.many.high in
@@ -128,7 +128,7 @@ listed_all P level finer (active ∷ coarser) each =
         (λ i j lies _. each 0 level i j (omega arith) (omega arith) (lying active i j lies)))
 
 module _ (reaches : CellsReach) (heights : HeightsAreSmall) (terrain : Terrain) (k : ℕ) (actives : List Region) (is : IsTerrain terrain) (size : IsSize k) (active : AreActive actives) where
-  vertex_printed : (level : ℕ) (i j : ℤ) → level < length actives → contains (active_of actives level) i j ≡ true → IsPrinted (vertex_at terrain k actives (record { level = level; i = i; j = j }))
+  vertex_printed : (level : ℕ) (i j : ℤ) → level < length actives → contains (active_at actives level) i j ≡ true → IsPrinted (vertex_at terrain k actives (record { level = level; i = i; j = j }))
   unfolding vertex_at
   vertex_printed level i j low there =
       let near = reaches actives level i j active low there in
@@ -145,7 +145,7 @@ module _ (reaches : CellsReach) (heights : HeightsAreSmall) (terrain : Terrain) 
       }
 
   vertices_printed : All IsPrinted (mesh_vertices terrain k actives)
-  unfolding mesh_vertices active_of
+  unfolding mesh_vertices active_at
   vertices_printed =
       All-map IsPrinted (vertex_at terrain k actives) (listed_vertices actives)
       (listed_all (λ cell. IsPrinted (vertex_at terrain k actives cell)) 0 empty_region actives (λ n m i j same low there.

@@ -6,9 +6,8 @@ use Rattle.std.proofs.lemmas.Bool.{and_parts}
 use Rattle.std.proofs.lemmas.List.Recursion.{is_position_or_len}
 use Rattle.std.proofs.lemmas.List.Sums.{passes_at_first}
 use Rattle.mesh_model.specs.declared.shapes.Vertex.{Vertex}
-use Rattle.mesh_model.specs.Vertices.{place_of}
+use Rattle.mesh_model.specs.Vertices.{place_of, vertex_of_place}
 use Rattle.mesh_model.specs.Parts.{corner_place}
-use Rattle.mesh_model.specs.Watertight.{vertex_of_place}
 use Rattle.watertight_laws.proofs.Picks.{same_from}
 
 -- the vertex stands at this column and row
@@ -32,7 +31,6 @@ place_is_first vertices x z =
     (λ vertex vs. ap (λ n. cond (stands x z vertex) 0 n) (one_more (place_of vs x z))) vertices
 
 there : (vertices : List Vertex) (x z : ℤ) → place_of vertices x z < length vertices → StandsAt (vertex_of_place vertices (place_of vertices x z)) x z
-unfolding vertex_of_place
 there vertices x z low =
     let first : place_of vertices x z ≡ position_or_len (stands x z) vertices = place_is_first vertices x z in
     let passes : stands x z (get_or vertices (position_or_len (stands x z) vertices) none) ≡ true =

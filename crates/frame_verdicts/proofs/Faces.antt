@@ -11,11 +11,11 @@ use Rattle.clip_regions.specs.declared.region.Region.{Region}
 use Rattle.clip_regions.specs.Regions.{empty_region, cells}
 use Rattle.terrain_model.specs.Terrain.{Terrain}
 use Rattle.mesh_model.specs.declared.shapes.Vertex.{Vertex}
-use Rattle.mesh_model.specs.Vertices.{mesh_vertices}
+use Rattle.mesh_model.specs.Vertices.{mesh_vertices, vertex_of_place}
 use Rattle.mesh_model.specs.Parts.{PartTriangles, corner_place, square_triangles, square_parts, square_parts_from, all_stitch_parts, parts_of_regions}
 use Rattle.mesh_model.specs.Mesh.{mesh, mesh_of_parts}
 use Rattle.mesh_model.specs.Conditions.{NameVertices}
-use Rattle.mesh_model.specs.Watertight.{vertex_of_place, is_middle, StitchesAreFlat}
+use Rattle.mesh_model.specs.Watertight.{is_middle, StitchesAreFlat}
 use Rattle.mesh_laws.specs.Squares.{part_squares, triangles_in}
 use Rattle.mesh_laws.specs.Laws.{PartSquares}
 use Rattle.mesh_check.specs.Verdict.{on_one_line, is_tilted, is_tilted_face}

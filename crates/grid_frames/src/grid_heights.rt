@@ -3,7 +3,7 @@
 ghost use Rattle.std.specs.Prelude.{◌≡◌, ◌<◌, length, IsTrue};
 ghost use Rattle.clip_regions.specs.Regions.{contains};
 ghost use Rattle.terrain_model.specs.Terrain.{level_height};
-ghost use Rattle.mesh_model.specs.Height.{active_of};
+ghost use Rattle.mesh_model.specs.Height.{active_at};
 ghost use Rattle.active_region.specs.Active.{AreActive};
 
 use active_region::Actives;
@@ -28,7 +28,7 @@ impl Heights for GridHeights<'_> {
     fn height(&self, level: u8, i: i32, j: i32) -> i16
         requires active { AreActive self.now.actives }
         requires level { level < length self.now.actives }
-        requires cell { IsTrue (contains (active_of self.now.actives level) i j) }
+        requires cell { IsTrue (contains (active_at self.now.actives level) i j) }
         ensures value { result ≡ level_height self.now.grid.now level i j }
     {
         actives_are_in_reach();

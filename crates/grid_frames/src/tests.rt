@@ -10,8 +10,9 @@ use clip_regions::{Region, wrap};
 use height_pyramid::Grid;
 use level_frame::window;
 use mesh_plain::{are_drawn, few_triangles, few_vertices, mesh};
-use obj_frames::{Bounds, Mesh, NoMemory, Part, PartKind, Vertex};
+use obj_frames::{Bounds, Header, Mesh, NoMemory, Part, PartKind, Vertex, cull, seen_text};
 use plan_model::windows_have_even_corners;
+use region_cull::{HalfSpace, View, kept};
 use std::alloc::{AllocError, Global};
 use std::process::Abort;
 use std::test::Fail;
@@ -70,6 +71,41 @@ fn two_whole_windows(rt: HostRuntime) -> Result<(), Fail> {
     };
     assert_eq!(rt; made.vertices().get(225), Some(&vertex));
     assert_eq!(rt; made.triangles().get(686), Some(&[0u32, 1, 2]));
+    Ok(())
+}
+
+#[test]
+fn a_view_keeps_three_of_nine_parts(rt: HostRuntime) -> Result<(), Fail> {
+    let regions = whole_regions(4, 2, &NEAR);
+    let made = grid_mesh(rt.alloc(), 4, &regions, &flat(rt.alloc())?)?;
+    // The points from column 9 on: of the coarser level's ring all but its western part.
+    let mut view = View::empty();
+    view.add(HalfSpace {
+        a: 1,
+        b: 0,
+        c: 0,
+        d: -9,
+    });
+    let parts = made.parts().iter();
+    let keep: Vec<bool> = parts
+        .map(|part| kept(&part.bounds, &view))
+        .collect(rt.alloc())?;
+    let header = Header {
+        number: 0,
+        x: 1,
+        y: 1,
+        actives: regions,
+    };
+    let culled = cull(rt.alloc(), &made, &header, keep.as_slice())?;
+    assert_eq!(rt;
+        (culled.parts, culled.vertices, culled.triangles),
+        (3, 165, 252)
+    );
+    let head =
+        b"# clipmap frame 0\n# viewer 1 1\n# level 0 active -6 -6 8 8\n# level 1 active -6 -6 8 8\n# kept 3 of 9\nv -6 0.00000 -6\n";
+    assert!(rt; culled.text.as_slice().starts_with(head));
+    let text = seen_text(rt.alloc(), &made, &header, keep.as_slice())?;
+    assert!(rt; text.as_slice() == culled.text.as_slice());
     Ok(())
 }
 

@@ -2,7 +2,8 @@
 use Rattle.std.specs.Prelude.{ℕ, ◌+◌, ◌*◌, ◌/◌, ◌%◌, ◌^◌, ◌<◌, ◌==◌, Bool, if◌then◌else◌, nat_lt, List, [], ◌∷◌, flat_map, count_by, slice_index}
 use Rattle.clip_regions.specs.declared.region.Region.{Region}
 use Rattle.mesh_model.specs.declared.shapes.Vertex.{Vertex}
-use Rattle.mesh_model.specs.Watertight.{vertex_of_place, is_on_side, is_closed_by}
+use Rattle.mesh_model.specs.Vertices.{vertex_of_place}
+use Rattle.mesh_model.specs.Watertight.{is_on_side, is_closed_by}
 
 -- the pair of two places, the first of them the lesser
 abbrev pub pair_key : ℕ → ℕ → ℕ

@@ -3,7 +3,8 @@ use Rattle.std.specs.Prelude.{◌≡◌, ◌⊎◌, ℕ, ◌+◌, ◌-◌, Bool,
 use Rattle.std.specs.List.{range_with_len, position_or_len}
 use Rattle.std.specs.Ordering.{int_eq}
 use Rattle.mesh_model.specs.declared.shapes.Vertex.{Vertex}
-use Rattle.mesh_model.specs.Watertight.{vertex_of_place, is_middle, edge_count, is_closed}
+use Rattle.mesh_model.specs.Vertices.{vertex_of_place}
+use Rattle.mesh_model.specs.Watertight.{is_middle, edge_count, is_closed}
 use Rattle.mesh_lists.specs.Lists.{Lists, lists_of_text}
 use Rattle.mesh_check.specs.declared.verdict.Verdict.{Verdict}
 use Rattle.mesh_check.specs.declared.verdict.Verdict.TheVariants.{Watertight, Crack, Tilted, Bad, NoMemory}

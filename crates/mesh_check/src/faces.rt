@@ -3,7 +3,8 @@
 ghost use Rattle.std.specs.Prelude.{◌≡◌, ◌<◌, ◌≤◌, ◌^◌, All, pos, neg_ℤ, ◌&&◌, ◌+ℤ◌, ◌-ℤ◌, ◌*ℤ◌, ◌≤ℤ◌, length};
 ghost use Rattle.std.specs.List.{position_or_len};
 ghost use Rattle.std.specs.Ordering.{int_eq};
-ghost use Rattle.mesh_model.specs.Watertight.{is_middle, vertex_of_place};
+ghost use Rattle.mesh_model.specs.Vertices.{vertex_of_place};
+ghost use Rattle.mesh_model.specs.Watertight.{is_middle};
 ghost use Rattle.mesh_lists.specs.Lists.{IsFace, IsNear};
 ghost use Rattle.mesh_check.specs.Verdict.{is_tilted, is_tilted_face, on_one_line};
 
@@ -121,7 +122,7 @@ fn is_tilted(a: &Vertex, b: &Vertex, c: &Vertex) -> bool
 }
 
 // The same of a triangle by the places of its vertices.
-#[tactic(auto, unfolding(crate::specs::Verdict::is_tilted_face, mesh_model::specs::Watertight::vertex_of_place))]
+#[tactic(auto, unfolding(crate::specs::Verdict::is_tilted_face))]
 fn is_tilted_face(vertices: &[Vertex], triangle: &[u32; 3]) -> bool
     requires near { All IsNear vertices.now }
     requires face { IsFace (length vertices.now) triangle.now }

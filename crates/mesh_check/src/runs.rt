@@ -131,7 +131,7 @@ pub(crate) struct Places<'a> {
 }
 
 // Whether an edge is closed.
-#[tactic(auto, unfolding(crate::specs::Keys::on_side, mesh_model::specs::Watertight::vertex_of_place))]
+#[tactic(auto, unfolding(crate::specs::Keys::on_side))]
 fn is_closed(places: Places<'_>, run: Run) -> bool
     requires first { run.pair / 2 ^ 32 < length places.vertices.now }
     requires second { run.pair % 2 ^ 32 < length places.vertices.now }

@@ -9,9 +9,9 @@ use Rattle.clip_regions.specs.declared.region.Region.{Region}
 use Rattle.clip_regions.specs.Regions.{contains, is_empty}
 use Rattle.mesh_model.specs.declared.shapes.Vertex.{Vertex}
 use Rattle.mesh_model.specs.Vertices.{hole}
-use Rattle.mesh_model.specs.Parts.{squares_between, square_part, square_parts}
+use Rattle.mesh_model.specs.Parts.{corners_at, squares_in, square_part, square_parts}
 use Rattle.mesh_laws.specs.Conditions.{IsCut, HasHole}
-use Rattle.mesh_laws.specs.Squares.{squares_in, part_squares, triangles_in}
+use Rattle.mesh_laws.specs.Squares.{part_squares, triangles_in}
 use Rattle.clip_regions.proofs.Cells.{Lies, lies, HasCell, has_cell, empty_is_empty}
 use Rattle.mesh_model.proofs.Rectangles.{none_in}
 
@@ -48,13 +48,13 @@ axis : (a p q b i : ℤ) → a ≤ℤ p → p ≤ℤ q → q ≤ℤ b → betwee
 unfolding between one_if
 axis a p q b i h k l = grind (arith, ints)
 
-pub square_is : (x0 x1 y0 y1 i j : ℤ) → one_if (contains (squares_between x0 x1 y0 y1) i j) ≡ between x0 x1 i * between y0 y1 j
-unfolding contains squares_between between
+pub square_is : (x0 x1 y0 y1 i j : ℤ) → one_if (contains (squares_in (corners_at x0 y0 x1 y1)) i j) ≡ between x0 x1 i * between y0 y1 j
+unfolding contains squares_in between
 square_is x0 x1 y0 y1 i j = one_and (le_z x0 i && le_z i (x1 -ℤ pos 1)) (le_z y0 j && le_z j (y1 -ℤ pos 1))
 
-count_one : (x0 x1 y0 y1 i j : ℤ) (rs : List Region) → count_by (λ q. contains q i j) (squares_between x0 x1 y0 y1 ∷ rs) ≡ between x0 x1 i * between y0 y1 j + count_by (λ q. contains q i j) rs
+count_one : (x0 x1 y0 y1 i j : ℤ) (rs : List Region) → count_by (λ q. contains q i j) (squares_in (corners_at x0 y0 x1 y1) ∷ rs) ≡ between x0 x1 i * between y0 y1 j + count_by (λ q. contains q i j) rs
 count_one x0 x1 y0 y1 i j rs =
-    count_cons (λ (q : Region). contains q i j) (squares_between x0 x1 y0 y1) rs ∙ ap (λ (n : ℕ). n + count_by (λ (q : Region). contains q i j) rs) (square_is x0 x1 y0 y1 i j)
+    count_cons (λ (q : Region). contains q i j) (squares_in (corners_at x0 y0 x1 y1)) rs ∙ ap (λ (n : ℕ). n + count_by (λ (q : Region). contains q i j) rs) (square_is x0 x1 y0 y1 i j)
 
 add_up : (a b c w a' b' c' w' : ℕ) → a + b + c ≡ w → a' + b' + c' ≡ w' → b * b' + (w * a' + (a * b' + (c * b' + (w * c' + 0)))) ≡ w * w'
 add_up a b c w a' b' c' w' e e' =
@@ -64,13 +64,13 @@ add_up a b c w a' b' c' w' e e' =
 
 around : (r g : Region) (i j : ℤ) → IsCut r g →
     count_by (λ q. contains q i j)
-    (squares_between g.x0 g.x1 g.y0 g.y1 ∷ squares_between r.x0 r.x1 r.y0 g.y0 ∷ squares_between r.x0 g.x0 g.y0 g.y1 ∷ squares_between g.x1 r.x1 g.y0 g.y1 ∷ squares_between r.x0 r.x1 g.y1 r.y1 ∷ [])
-    ≡ one_if (contains (squares_between r.x0 r.x1 r.y0 r.y1) i j)
+    (squares_in g ∷ squares_in (corners_at r.x0 r.y0 r.x1 g.y0) ∷ squares_in (corners_at r.x0 g.y0 g.x0 g.y1) ∷ squares_in (corners_at g.x1 g.y0 r.x1 g.y1) ∷ squares_in (corners_at r.x0 g.y1 r.x1 r.y1) ∷ [])
+    ≡ one_if (contains (squares_in r) i j)
 around r g i j cut =
-    let north = squares_between r.x0 r.x1 r.y0 g.y0 in
-    let west = squares_between r.x0 g.x0 g.y0 g.y1 in
-    let east = squares_between g.x1 r.x1 g.y0 g.y1 in
-    let south = squares_between r.x0 r.x1 g.y1 r.y1 in
+    let north = squares_in (corners_at r.x0 r.y0 r.x1 g.y0) in
+    let west = squares_in (corners_at r.x0 g.y0 g.x0 g.y1) in
+    let east = squares_in (corners_at g.x1 g.y0 r.x1 g.y1) in
+    let south = squares_in (corners_at r.x0 g.y1 r.x1 r.y1) in
     count_one g.x0 g.x1 g.y0 g.y1 i j (north ∷ west ∷ east ∷ south ∷ [])
     ∙ ap (λ (n : ℕ). between g.x0 g.x1 i * between g.y0 g.y1 j + n) (count_one r.x0 r.x1 r.y0 g.y0 i j (west ∷ east ∷ south ∷ [])
     ∙ ap (λ (n : ℕ). between r.x0 r.x1 i * between r.y0 g.y0 j + n) (count_one r.x0 g.x0 g.y0 g.y1 i j (east ∷ south ∷ [])
@@ -82,10 +82,10 @@ around r g i j cut =
 
 -- a region with no cell has no square
 no_square : (r : Region) (i j : ℤ) → is_empty r ≡ true → contains (squares_in r) i j ≡ false
-unfolding squares_in squares_between
-no_square r i j none = false_from_ne_true (contains (squares_in r) i j) (λ t. found (lies (squares_between r.x0 r.x1 r.y0 r.y1) i j t))
+unfolding squares_in
+no_square r i j none = false_from_ne_true (contains (squares_in r) i j) (λ t. found (lies (squares_in r) i j t))
   where
-    found : Lies (squares_between r.x0 r.x1 r.y0 r.y1) i j → ⊥
+    found : Lies (squares_in r) i j → ⊥
     found l =
         let w = l.west in
         let e = l.east in
@@ -118,10 +118,10 @@ parts_whole finer active some closed = rw (some, closed) refl
 
 parts_round : (finer active : Region) → is_empty active ≡ false → is_empty (hole finer) ≡ false →
     part_squares finer active
-    ≡ squares_between active.x0 active.x1 active.y0 (hole finer).y0
-    ∷ squares_between active.x0 (hole finer).x0 (hole finer).y0 (hole finer).y1
-    ∷ squares_between (hole finer).x1 active.x1 (hole finer).y0 (hole finer).y1
-    ∷ squares_between active.x0 active.x1 (hole finer).y1 active.y1
+    ≡ squares_in (corners_at active.x0 active.y0 active.x1 (hole finer).y0)
+    ∷ squares_in (corners_at active.x0 (hole finer).y0 (hole finer).x0 (hole finer).y1)
+    ∷ squares_in (corners_at (hole finer).x1 (hole finer).y0 active.x1 (hole finer).y1)
+    ∷ squares_in (corners_at active.x0 (hole finer).y1 active.x1 active.y1)
     ∷ []
 unfolding part_squares
 parts_round finer active some open' = rw (some, open') refl

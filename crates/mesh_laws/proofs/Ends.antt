@@ -5,7 +5,7 @@ use Rattle.clip_regions.specs.declared.region.Region.{Region}
 use Rattle.clip_regions.specs.FloorDivision.{floor_div, floor_rem}
 use Rattle.clip_regions.specs.Regions.{contains, HasEvenCorners}
 use Rattle.plan_model.specs.Window.{margin}
-use Rattle.mesh_model.specs.Height.{active_of, lower_end, upper_end}
+use Rattle.mesh_model.specs.Height.{active_at, lower_end, upper_end}
 use Rattle.mesh_model.specs.Vertices.{hole}
 use Rattle.active_region.specs.Active.{AreActive}
 use Rattle.mesh_laws.proofs.Sizes.{even_of, inner_of}
@@ -43,11 +43,11 @@ upper_in r i j even l = record {
 }
 
 -- a cell of half of a region is one of the coarser region
-carried : (actives : List Region) (level : ℕ) (a b : ℤ) (drawn : AreActive actives) → level + 1 < length actives → HasCell (active_of actives level) →
-    Lies (halved (active_of actives level)) a b → contains (active_of actives (level + 1)) a b ≡ true
+carried : (actives : List Region) (level : ℕ) (a b : ℤ) (drawn : AreActive actives) → level + 1 < length actives → HasCell (active_at actives level) →
+    Lies (halved (active_at actives level)) a b → contains (active_at actives (level + 1)) a b ≡ true
 carried actives level a b drawn low some l =
-    let r = active_of actives level in
-    let next = active_of actives (level + 1) in
+    let r = active_at actives level in
+    let next = active_at actives (level + 1) in
     let inside : Lies (hole r) a b = subst (λ (q : Region). Lies q a b) (sym (hole_is r some)) l in
     let w : Within next (hole r) = hole_within (margin drawn.k) r next (inner_of actives level drawn low) (cell_in (hole r) a b inside) in
     lying next a b (larger next (hole r) w inside)
@@ -55,16 +55,16 @@ carried actives level a b drawn low some l =
     larger : (p q : Region) → Within p q → Lies q a b → Lies p a b
     larger p q w l' = record { west = omega (arith, ints, w.west, l'.west); east = omega (arith, ints, w.east, l'.east); north = omega (arith, ints, w.north, l'.north); south = omega (arith, ints, w.south, l'.south) }
 
-pub lower_there : (actives : List Region) (level : ℕ) (i j : ℤ) → AreActive actives → level + 1 < length actives → contains (active_of actives level) i j ≡ true →
-    contains (active_of actives (level + 1)) (lower_end i) (lower_end j) ≡ true
+pub lower_there : (actives : List Region) (level : ℕ) (i j : ℤ) → AreActive actives → level + 1 < length actives → contains (active_at actives level) i j ≡ true →
+    contains (active_at actives (level + 1)) (lower_end i) (lower_end j) ≡ true
 lower_there actives level i j drawn low there =
-    let l : Lies (active_of actives level) i j = lies (active_of actives level) i j there in
-    carried actives level (lower_end i) (lower_end j) drawn low (cell_in (active_of actives level) i j l) (lower_in (active_of actives level) i j l)
+    let l : Lies (active_at actives level) i j = lies (active_at actives level) i j there in
+    carried actives level (lower_end i) (lower_end j) drawn low (cell_in (active_at actives level) i j l) (lower_in (active_at actives level) i j l)
 
-pub upper_there : (actives : List Region) (level : ℕ) (i j : ℤ) → AreActive actives → level + 1 < length actives → contains (active_of actives level) i j ≡ true →
-    contains (active_of actives (level + 1)) (upper_end i) (upper_end j) ≡ true
+pub upper_there : (actives : List Region) (level : ℕ) (i j : ℤ) → AreActive actives → level + 1 < length actives → contains (active_at actives level) i j ≡ true →
+    contains (active_at actives (level + 1)) (upper_end i) (upper_end j) ≡ true
 upper_there actives level i j drawn low there =
-    let l : Lies (active_of actives level) i j = lies (active_of actives level) i j there in
-    let some : HasCell (active_of actives level) = cell_in (active_of actives level) i j l in
-    let even : HasEvenCorners (active_of actives level) = even_if_cell (active_of actives level) (even_of actives level (omega arith) drawn) some in
-    carried actives level (upper_end i) (upper_end j) drawn low some (upper_in (active_of actives level) i j even l)
+    let l : Lies (active_at actives level) i j = lies (active_at actives level) i j there in
+    let some : HasCell (active_at actives level) = cell_in (active_at actives level) i j l in
+    let even : HasEvenCorners (active_at actives level) = even_if_cell (active_at actives level) (even_of actives level (omega arith) drawn) some in
+    carried actives level (upper_end i) (upper_end j) drawn low some (upper_in (active_at actives level) i j even l)

@@ -9,7 +9,7 @@ use Rattle.std.proofs.Math.Nat.{mul-le-mul}
 use Rattle.clip_regions.specs.declared.region.Region.{Region}
 use Rattle.clip_regions.specs.Regions.{is_empty, empty_region, columns, rows, area}
 use Rattle.terrain_model.specs.Terrain.{Terrain}
-use Rattle.mesh_model.specs.Height.{active_of}
+use Rattle.mesh_model.specs.Height.{active_at}
 use Rattle.mesh_model.specs.Vertices.{mesh_vertices}
 use Rattle.mesh_model.specs.Parts.{PartTriangles, square_parts_from, all_stitch_parts, parts_of_regions}
 use Rattle.mesh_model.specs.Mesh.{mesh, mesh_of_parts}
@@ -22,7 +22,7 @@ use Rattle.mesh_laws.proofs.Sizes.{small_of}
 use Rattle.mesh_model.proofs.Whole.{all_left}
 
 all_small : (actives : List Region) → AreActive actives → All IsSmall actives
-unfolding active_of
+unfolding active_at
 all_small actives drawn level d low = subst IsSmall (get_or_default actives level empty_region d low) (small_of actives level low drawn)
 
 few_area : (r : Region) → IsSmall r → area r ≤ 65025

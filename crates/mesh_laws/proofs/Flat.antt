@@ -20,12 +20,12 @@ use Rattle.plan_model.specs.Laws.{AreNested, AllEvenOrEmpty}
 use Rattle.terrain_model.specs.Terrain.{Terrain, level_height}
 use Rattle.active_region.specs.Active.{AreDrawn}
 use Rattle.mesh_model.specs.declared.shapes.Vertex.{Vertex}
-use Rattle.mesh_model.specs.Height.{border_distance, active_of, lower_end, upper_end}
+use Rattle.mesh_model.specs.Height.{border_distance, active_at, lower_end, upper_end}
 use Rattle.mesh_model.specs.Nested.{StandApart}
 use Rattle.mesh_model.specs.Laws.{VerticesApart, OwnPlaces}
-use Rattle.mesh_model.specs.Vertices.{hole, vertex_at, mesh_vertices, listed_vertices}
+use Rattle.mesh_model.specs.Vertices.{hole, vertex_at, mesh_vertices, listed_vertices, vertex_of_place}
 use Rattle.mesh_model.specs.Parts.{PartTriangles, corner_place, stitches_from, stitches_along, places_in_row, places_in_column, stitch_part, stitch_parts, stitch_parts_from, all_stitch_parts}
-use Rattle.mesh_model.specs.Watertight.{vertex_of_place, is_middle, StitchesAreFlat}
+use Rattle.mesh_model.specs.Watertight.{is_middle, StitchesAreFlat}
 use Rattle.mesh_laws.proofs.Rectangles.{hole_deep}
 use Rattle.clip_regions.proofs.Gaps.{gap_by}
 use Rattle.mesh_laws.proofs.Borders.{OnSide, not_deep}
@@ -389,7 +389,7 @@ record HasAll (terrain : Terrain) (k : ℕ) (actives : List Region) : Type 0 whe
   own : OwnPlaces
 
 level_border : (terrain : Terrain) (k e level : ℕ) (actives : List Region) (finer active : Region) → HasAll terrain k actives → 1 ≤ e → IsInner e finer active → IsListed (listed_vertices actives) level finer active →
-    active_of actives level ≡ active → level + 1 < length actives → HasBorder (mesh_vertices terrain k actives) terrain level active
+    active_at actives level ≡ active → level + 1 < length actives → HasBorder (mesh_vertices terrain k actives) terrain level active
 unfolding border_vertex vertex_at
 level_border terrain k e level actives finer active all margin inner listed is low = record {
   at = λ i j l side.
@@ -397,7 +397,7 @@ level_border terrain k e level actives finer active all margin inner listed is l
       let out : contains gap i j ≡ false = false_from_ne_true (contains gap i j) (λ t.
       let deep : Lies gap i j = lies gap i j t in
       not_deep e active gap i j margin (hole_deep e finer active inner (cell_in gap i j deep)) deep side) in
-      let distance : border_distance (active_of actives level) i j ≡ pos 0 = ap (λ r. border_distance r i j) is ∙ side_distance active i j l side in
+      let distance : border_distance (active_at actives level) i j ≡ pos 0 = ap (λ r. border_distance r i j) is ∙ side_distance active i j l side in
       vertex_there terrain k actives (record { level = level; i = i; j = j }) all.apart all.own (listed.at i j l out)
       ∙ ap (λ (height : ℤ). record { x = i *ℤ pos (2 ^ level); z = j *ℤ pos (2 ^ level); height = height }) (height_at_border terrain k actives level i j all.size low distance);
 }
@@ -405,7 +405,7 @@ level_border terrain k e level actives finer active all margin inner listed is l
 levels_flat : (terrain : Terrain) (k e level : ℕ) (actives done : List Region) (finer active : Region) (coarser : List Region) → HasAll terrain k actives → 1 ≤ e →
     done ++ (active ∷ coarser) ≡ actives → length done ≡ level → AreNested e (finer ∷ active ∷ coarser) → AllEvenOrEmpty (active ∷ coarser) → AreListed (listed_vertices actives) level finer (active ∷ coarser) →
     All (OfTriangle (IsFlat (mesh_vertices terrain k actives))) (flat_map (λ part. part.triangles) (stitch_parts_from (mesh_vertices terrain k actives) level active coarser))
-unfolding active_of
+unfolding active_at
 levels_flat terrain k e level actives done finer active [] all margin whole count nested shapes listed = All-nil (OfTriangle (IsFlat (mesh_vertices terrain k actives)))
 levels_flat terrain k e level actives done finer active (next ∷ coarser) all margin whole count nested shapes listed =
     let vertices = mesh_vertices terrain k actives in
@@ -419,7 +419,7 @@ levels_flat terrain k e level actives done finer active (next ∷ coarser) all m
     (All-append flat (flat_map triangles here) (flat_map triangles rest) (own longer)
     (levels_flat terrain k e (level + 1) actives (done ++ (active ∷ [])) active next coarser all margin (append_assoc done (active ∷ []) (next ∷ coarser) ∙ whole) more nested.1 shapes.1 listed.1))
   where
-    at_level : active_of actives level ≡ active
+    at_level : active_at actives level ≡ active
     at_level =
         (λ t. get_or (sym whole t) (sym count t) empty_region)
         ∙ (λ t. get_or (done ++ (active ∷ next ∷ coarser)) (sym (plus_zero (length done)) t) empty_region)

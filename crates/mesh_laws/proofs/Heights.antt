@@ -11,7 +11,7 @@ use Rattle.clip_regions.specs.Regions.{contains}
 use Rattle.plan_model.specs.Limits.{IsSize}
 use Rattle.plan_model.specs.Window.{blend_width}
 use Rattle.terrain_model.specs.Terrain.{Terrain, IsTerrain, height_at, level_height}
-use Rattle.mesh_model.specs.Height.{border_distance, blend_share, blended_height, active_of, lower_end, upper_end, vertex_height}
+use Rattle.mesh_model.specs.Height.{border_distance, blend_share, blended_height, active_at, lower_end, upper_end, vertex_height}
 use Rattle.mesh_laws.specs.Conditions.{IsAtMost}
 use Rattle.clip_regions.proofs.Cells.{Lies, lies}
 
@@ -106,11 +106,11 @@ weights_of (suc (suc (suc zero))) h = record { whole = refl; twice = refl }
 weights_of (suc (suc (suc (suc zero)))) h = record { whole = refl; twice = refl }
 weights_of (suc (suc (suc (suc (suc m))))) h = absurd (omega arith)
 
-pub height_at_most : (terrain : Terrain) (k : ℕ) (actives : List Region) (level : ℕ) (i j : ℤ) → IsTerrain terrain → IsSize k → contains (active_of actives level) i j ≡ true →
+pub height_at_most : (terrain : Terrain) (k : ℕ) (actives : List Region) (level : ℕ) (i j : ℤ) → IsTerrain terrain → IsSize k → contains (active_at actives level) i j ≡ true →
     IsAtMost (2 ^ 20) (vertex_height terrain k actives level i j)
 unfolding vertex_height blended_height blend_width level_height
 height_at_most terrain k actives level i j is size there =
-    let r = active_of actives level in
+    let r = active_at actives level in
     let w = 2 ^ (k - 4) in
     let t = blend_share k (level + 1 == length actives) r i j in
     let share : IsShare w t = share_is k (level + 1 == length actives) r i j (lies r i j there) in

@@ -16,3 +16,4 @@ pub mod Seams
 pub mod Standing
 pub mod Flat
 pub mod Once
+pub mod Filled

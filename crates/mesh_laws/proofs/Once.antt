@@ -12,9 +12,9 @@ use Rattle.clip_regions.specs.FloorDivision.{floor_div, floor_rem}
 use Rattle.clip_regions.specs.Regions.{contains, is_empty, empty_region, cells, columns, rows, numbers_from, HasEvenCorners}
 use Rattle.plan_model.specs.Laws.{IsEvenOrEmpty, AllEvenOrEmpty, AreNested}
 use Rattle.mesh_model.specs.Vertices.{hole}
-use Rattle.mesh_model.specs.Parts.{squares_between}
+use Rattle.mesh_model.specs.Parts.{squares_in}
 use Rattle.mesh_model.specs.Watertight.{lies_in, ring_squares, cover_count, covered, scaled, SquaresCover}
-use Rattle.mesh_model.specs.Height.{active_of}
+use Rattle.mesh_model.specs.Height.{active_at}
 use Rattle.mesh_laws.proofs.Rectangles.{hole_or_none}
 use Rattle.mesh_laws.proofs.Places.{from_nothing}
 use Rattle.clip_regions.proofs.Gaps.{gap_by}
@@ -192,15 +192,15 @@ axis_count d a b x c h =
 
 -- of a region's squares
 square_count : (level : ℕ) (r : Region) (x z c e : ℤ) → IsHit (2 ^ level) x c → IsHit (2 ^ level) z e →
-    count_by (lies_in level x z) (cells (squares_between r.x0 r.x1 r.y0 r.y1)) ≡ unit_in (2 ^ level) r x z
-unfolding lies_in squares_between columns rows has_unit unit_in
+    count_by (lies_in level x z) (cells (squares_in r)) ≡ unit_in (2 ^ level) r x z
+unfolding lies_in squares_in columns rows has_unit unit_in
 square_count level r x z c e hx hz =
     let d = 2 ^ level in
     count_rows (has_unit d x) (has_unit d z) (numbers_from r.x0 (int_gap r.x0 (r.x1 -ℤ pos 1 +ℤ pos 1))) (numbers_from r.y0 (int_gap r.y0 (r.y1 -ℤ pos 1 +ℤ pos 1)))
     ∙ (λ t. axis_count d r.x0 r.x1 x c hx t * axis_count d r.y0 r.y1 z e hz t)
 
 square_hit : (level : ℕ) (r : Region) (x z c e : ℤ) → IsHit (2 ^ level) x c → IsHit (2 ^ level) z e →
-    one_if (contains (squares_between r.x0 r.x1 r.y0 r.y1) c e) ≡ unit_in (2 ^ level) r x z
+    one_if (contains (squares_in r) c e) ≡ unit_in (2 ^ level) r x z
 unfolding unit_in
 square_hit level r x z c e hx hz =
     let d = 2 ^ level in
@@ -276,18 +276,18 @@ ring_count e level finer active x z inner =
     let gap = hole finer in
     let hx : IsHit d x c = hit d x some in
     let hz : IsHit d z f = hit d z some in
-    let left = λ (square : ℤ × ℤ). not (contains (squares_between gap.x0 gap.x1 gap.y0 gap.y1) square.0 square.1) in
+    let left = λ (square : ℤ × ℤ). not (contains (squares_in gap) square.0 square.1) in
     let out = left (c, f) in
-    let counted : count_by (lies_in level x z) (filter left (cells (squares_between active.x0 active.x1 active.y0 active.y1))) ≡ one_if out * count_by (lies_in level x z) (cells (squares_between active.x0 active.x1 active.y0 active.y1))
-    = count_filter (lies_in level x z) left out (cells (squares_between active.x0 active.x1 active.y0 active.y1)) (λ square passed. same square c f (only_square level x z c f square hx hz passed)) in
+    let counted : count_by (lies_in level x z) (filter left (cells (squares_in active))) ≡ one_if out * count_by (lies_in level x z) (cells (squares_in active))
+    = count_filter (lies_in level x z) left out (cells (squares_in active)) (λ square passed. same square c f (only_square level x z c f square hx hz passed)) in
     let whole = square_count level active x z c f hx hz in
-    let held : one_if (contains (squares_between gap.x0 gap.x1 gap.y0 gap.y1) c f) ≡ unit_in d gap x z = square_hit level gap x z c f hx hz in
-    split (contains (squares_between gap.x0 gap.x1 gap.y0 gap.y1) c f) (count_by (lies_in level x z) (filter left (cells (squares_between active.x0 active.x1 active.y0 active.y1)))) (unit_in d gap x z) (unit_in d active x z)
+    let held : one_if (contains (squares_in gap) c f) ≡ unit_in d gap x z = square_hit level gap x z c f hx hz in
+    split (contains (squares_in gap) c f) (count_by (lies_in level x z) (filter left (cells (squares_in active)))) (unit_in d gap x z) (unit_in d active x z)
     (counted ∙ ap (λ n. one_if out * n) whole) held (hole_in e d finer active x z inner) (in_once d active x z)
   where
     same : (square : ℤ × ℤ) (c f : ℤ) → (square.0 ≡ c) × (square.1 ≡ f) →
-        not (contains (squares_between (hole finer).x0 (hole finer).x1 (hole finer).y0 (hole finer).y1) square.0 square.1) ≡ not (contains (squares_between (hole finer).x0 (hole finer).x1 (hole finer).y0 (hole finer).y1) c f)
-    same square c f at = λ t. not (contains (squares_between (hole finer).x0 (hole finer).x1 (hole finer).y0 (hole finer).y1) (at.0 t) (at.1 t))
+        not (contains (squares_in (hole finer)) square.0 square.1) ≡ not (contains (squares_in (hole finer)) c f)
+    same square c f at = λ t. not (contains (squares_in (hole finer)) (at.0 t) (at.1 t))
 
     split : (q : Bool) (n g r : ℕ) → n ≡ one_if (not q) * r → one_if q ≡ g → g ≤ r → r ≤ 1 → n + g ≡ r
     split true n g r en eg low high = omega (arith, en, eg, low, high)
@@ -340,7 +340,7 @@ last_is active (next ∷ coarser) = last_is next coarser
 
 -- where the regions are drawn
 pub squares_cover : (e : ℕ) (actives : List Region) → AllEvenOrEmpty actives → AreNested e actives → SquaresCover actives
-unfolding covered scaled active_of one_if unit_in unit_between
+unfolding covered scaled active_at one_if unit_in unit_between
 squares_cover e [] shapes nested x z across along = absurd (nothing x across)
   where
     nothing : (x : ℤ) → (le_z (pos 0 *ℤ pos 1) x && lt_z x (negsuc 0 *ℤ pos 1)) ≡ true → ⊥

@@ -11,7 +11,7 @@ use Rattle.clip_regions.specs.Regions.{contains, empty_region}
 use Rattle.plan_model.specs.Limits.{IsSize, IsViewed}
 use Rattle.plan_model.specs.Window.{window, center, half_width, IsInReach}
 use Rattle.plan_model.specs.Sound.{IsInside, IsShown}
-use Rattle.mesh_model.specs.Height.{active_of}
+use Rattle.mesh_model.specs.Height.{active_at}
 use Rattle.active_region.specs.Active.{AreActive}
 use Rattle.mesh_laws.specs.Conditions.{IsNear}
 use Rattle.mesh_laws.proofs.Sizes.{half_at_most}
@@ -132,8 +132,8 @@ shown_reach k level r size low shown =
       | inr some ↦ inside_reach k level shown.x shown.y r size low shown.column shown.row some.inside
     ]
 
-pub reach_of : (actives : List Region) (level : ℕ) → AreActive actives → level < length actives → IsInReach level (active_of actives level)
-unfolding active_of
+pub reach_of : (actives : List Region) (level : ℕ) → AreActive actives → level < length actives → IsInReach level (active_at actives level)
+unfolding active_at
 reach_of actives level drawn low =
     let many = drawn.drawn.many.high in
     shown_reach drawn.k level (get_or actives level empty_region) drawn.size (omega arith) (drawn.drawn.shown level low)
@@ -146,10 +146,10 @@ between a i b p ai ib low high = (
 )
 
 -- and so does each of its cells
-pub near_of : (actives : List Region) (level : ℕ) (i j : ℤ) → AreActive actives → level < length actives → contains (active_of actives level) i j ≡ true →
+pub near_of : (actives : List Region) (level : ℕ) (i j : ℤ) → AreActive actives → level < length actives → contains (active_at actives level) i j ≡ true →
     IsNear level i × IsNear level j
 near_of actives level i j drawn low there =
-    let r = active_of actives level in
+    let r = active_at actives level in
     let cell = lies r i j there in
     let reach = reach_of actives level drawn low in
     let across = between r.x0 i r.x1 (2 ^ level) cell.west cell.east reach.west reach.east in

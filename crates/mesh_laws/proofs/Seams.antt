@@ -10,7 +10,7 @@ use Rattle.plan_model.specs.Limits.{IsSize}
 use Rattle.plan_model.specs.Window.{margin, blend_width}
 use Rattle.terrain_model.specs.Terrain.{Terrain, level_height}
 use Rattle.active_region.specs.Active.{AreActive, AreDrawn}
-use Rattle.mesh_model.specs.Height.{border_distance, blend_share, blended_height, active_of, lower_end, upper_end, vertex_height}
+use Rattle.mesh_model.specs.Height.{border_distance, blend_share, blended_height, active_at, lower_end, upper_end, vertex_height}
 use Rattle.mesh_model.specs.Vertices.{hole}
 use Rattle.mesh_model.specs.Watertight.{HeightsAgree, is_on_border}
 use Rattle.mesh_laws.proofs.Rectangles.{IsDeep, hole_deep}
@@ -90,12 +90,12 @@ no_share w q p t own a b e weight =
 -- ---- heights of vertices
 -- on the border of a level that isn't the coarsest
 pub height_at_border : (terrain : Terrain) (k : ℕ) (actives : List Region) (level : ℕ) (i j : ℤ) → IsSize k → level + 1 < length actives →
-    border_distance (active_of actives level) i j ≡ pos 0 →
+    border_distance (active_at actives level) i j ≡ pos 0 →
     vertex_height terrain k actives level i j
     ≡ pos 16 *ℤ (level_height terrain (level + 1) (lower_end i) (lower_end j) +ℤ level_height terrain (level + 1) (upper_end i) (upper_end j))
 unfolding vertex_height blended_height
 height_at_border terrain k actives level i j size low at =
-    let r = active_of actives level in
+    let r = active_at actives level in
     let finer : (level + 1 == length actives) ≡ false = grind (arith, low) in
     let share : blend_share k (level + 1 == length actives) r i j ≡ pos (blend_width k) = ap (λ c. blend_share k c r i j) finer ∙ share_at_border k r i j at in
     all_share (blend_width k) (32 / blend_width k) (16 / blend_width k) (blend_share k (level + 1 == length actives) r i j) (level_height terrain level i j)
@@ -103,18 +103,18 @@ height_at_border terrain k actives level i j size low at =
 
 -- at least the blend width inside
 pub height_inside : (terrain : Terrain) (k : ℕ) (actives : List Region) (level : ℕ) (i j : ℤ) → IsSize k →
-    pos (blend_width k) ≤ℤ border_distance (active_of actives level) i j →
+    pos (blend_width k) ≤ℤ border_distance (active_at actives level) i j →
     vertex_height terrain k actives level i j ≡ pos 32 *ℤ level_height terrain level i j
 unfolding vertex_height blended_height
 height_inside terrain k actives level i j size deep =
-    let r = active_of actives level in
+    let r = active_at actives level in
     no_share (blend_width k) (32 / blend_width k) (16 / blend_width k) (blend_share k (level + 1 == length actives) r i j) (level_height terrain level i j)
     (level_height terrain (level + 1) (lower_end i) (lower_end j)) (level_height terrain (level + 1) (upper_end i) (upper_end j))
     (share_inside k (level + 1 == length actives) r i j deep) (weights k size).own
 
 -- ---- both sides of a border
 -- a cell of half of the finer region lies at least the blend width inside the coarser one
-deep_distance : (k : ℕ) (a b : Region) (i j : ℤ) → IsDeep (margin k) a b → Lies b i j → pos (blend_width k) ≤ℤ border_distance a i j
+pub deep_distance : (k : ℕ) (a b : Region) (i j : ℤ) → IsDeep (margin k) a b → Lies b i j → pos (blend_width k) ≤ℤ border_distance a i j
 unfolding border_distance margin
 deep_distance k a b i j d l =
     let wide : blend_width k ≤ max 2 (blend_width k) = omega arith in
@@ -129,11 +129,11 @@ deep_distance k a b i j d l =
     omega (arith, ints, clamps, wide, dw, de, dn, ds, lw, le, ln, ls)
 
 pub heights_agree : (terrain : Terrain) (k : ℕ) (actives : List Region) → IsSize k → AreDrawn k actives → (level : ℕ) (i j : ℤ) → level + 1 < length actives →
-    contains (active_of actives level) (pos 2 *ℤ i) (pos 2 *ℤ j) ≡ true → border_distance (active_of actives level) (pos 2 *ℤ i) (pos 2 *ℤ j) ≡ pos 0 →
+    contains (active_at actives level) (pos 2 *ℤ i) (pos 2 *ℤ j) ≡ true → border_distance (active_at actives level) (pos 2 *ℤ i) (pos 2 *ℤ j) ≡ pos 0 →
     vertex_height terrain k actives level (pos 2 *ℤ i) (pos 2 *ℤ j) ≡ vertex_height terrain k actives (level + 1) i j
 heights_agree terrain k actives size drawn level i j low there at =
-    let a = active_of actives level in
-    let b = active_of actives (level + 1) in
+    let a = active_at actives level in
+    let b = active_at actives (level + 1) in
     let active : AreActive actives = record { k = k; size = size; drawn = drawn } in
     let inside : Lies (hole a) i j = into_hole a i j (lies a (pos 2 *ℤ i) (pos 2 *ℤ j) there) in
     let deep : IsDeep (margin k) b (hole a) = hole_deep (margin k) a b (inner_of actives level active low) (cell_in (hole a) i j inside) in
@@ -145,7 +145,7 @@ heights_agree terrain k actives size drawn level i j low there at =
 pub agreeing : (terrain : Terrain) (k : ℕ) (actives : List Region) → IsSize k → AreDrawn k actives → HeightsAgree terrain k actives
 unfolding is_on_border
 agreeing terrain k actives size drawn = λ level i j low border _.
-    let a = active_of actives level in
+    let a = active_at actives level in
     let distance = border_distance a (pos 2 *ℤ i) (pos 2 *ℤ j) in
     let parts : (contains a (pos 2 *ℤ i) (pos 2 *ℤ j) ≡ true) × (int_eq distance (pos 0) ≡ true) =
     and_parts (contains a (pos 2 *ℤ i) (pos 2 *ℤ j)) (int_eq distance (pos 0)) border in

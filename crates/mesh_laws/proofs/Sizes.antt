@@ -10,7 +10,7 @@ use Rattle.plan_model.specs.Limits.{IsSize}
 use Rattle.plan_model.specs.Window.{window, center, half_width, margin}
 use Rattle.plan_model.specs.Laws.{IsEvenOrEmpty, AllEvenOrEmpty, AreNested}
 use Rattle.plan_model.specs.Sound.{IsInside, IsShown}
-use Rattle.mesh_model.specs.Height.{active_of}
+use Rattle.mesh_model.specs.Height.{active_at}
 use Rattle.mesh_model.specs.Vertices.{hole}
 use Rattle.active_region.specs.Active.{AreActive}
 use Rattle.mesh_laws.specs.declared.ring.Ring.{Ring}
@@ -27,31 +27,31 @@ even_at [] level d low all = absurd (omega arith)
 even_at (r ∷ rest) zero d low all = all.0
 even_at (r ∷ rest) (suc level) d low all = even_at rest level d (omega arith) all.1
 
-inner_at : (e : ℕ) (actives : List Region) (level : ℕ) (d : Region) → suc level < length actives → AreNested e actives → IsInner e (get_or actives level d) (get_or actives (suc level) d)
+pub inner_at : (e : ℕ) (actives : List Region) (level : ℕ) (d : Region) → suc level < length actives → AreNested e actives → IsInner e (get_or actives level d) (get_or actives (suc level) d)
 inner_at e [] level d low nested = absurd (omega arith)
 inner_at e (a ∷ []) level d low nested = absurd (omega arith)
 inner_at e (a ∷ b ∷ rest) zero d low nested = nested.0
 inner_at e (a ∷ b ∷ rest) (suc level) d low nested = inner_at e (b ∷ rest) level d (omega arith) nested.1
 
-pub even_of : (actives : List Region) (level : ℕ) → level < length actives → AreActive actives → IsEvenOrEmpty (active_of actives level)
-unfolding active_of
+pub even_of : (actives : List Region) (level : ℕ) → level < length actives → AreActive actives → IsEvenOrEmpty (active_at actives level)
+unfolding active_at
 even_of actives level low drawn = even_at actives level empty_region low drawn.drawn.even
 
 pub even_finer : (actives : List Region) (level : ℕ) → level < length actives → AreActive actives → IsEvenOrEmpty (finer_of actives level)
 even_finer actives zero low drawn = inl empty_is_empty
 even_finer actives (suc level) low drawn = even_of actives level (omega arith) drawn
 
-pub inner_of : (actives : List Region) (level : ℕ) (drawn : AreActive actives) → level + 1 < length actives → IsInner (margin drawn.k) (active_of actives level) (active_of actives (level + 1))
-unfolding active_of
+pub inner_of : (actives : List Region) (level : ℕ) (drawn : AreActive actives) → level + 1 < length actives → IsInner (margin drawn.k) (active_at actives level) (active_at actives (level + 1))
+unfolding active_at
 inner_of actives level drawn low =
     let next : suc level ≡ level + 1 = omega arith in
     subst (λ (n : ℕ). IsInner (margin drawn.k) (get_or actives level empty_region) (get_or actives n empty_region)) next
     (inner_at (margin drawn.k) actives level empty_region (omega arith) drawn.drawn.nested)
 
-pub inner_finer : (actives : List Region) (level : ℕ) (drawn : AreActive actives) → level < length actives → IsInner (margin drawn.k) (finer_of actives level) (active_of actives level)
+pub inner_finer : (actives : List Region) (level : ℕ) (drawn : AreActive actives) → level < length actives → IsInner (margin drawn.k) (finer_of actives level) (active_at actives level)
 inner_finer actives zero drawn low = λ some. none_in _ empty_region empty_is_empty (has_cell empty_region some)
 inner_finer actives (suc level) drawn low =
-    subst (λ (n : ℕ). IsInner (margin drawn.k) (active_of actives level) (active_of actives n)) (omega arith) (inner_of actives level drawn (omega arith))
+    subst (λ (n : ℕ). IsInner (margin drawn.k) (active_at actives level) (active_at actives n)) (omega arith) (inner_of actives level drawn (omega arith))
 
 -- ---- windows
 pub half_at_most : (k : ℕ) → IsSize k → half_width k ≤ 127
@@ -97,18 +97,18 @@ shown_small k level r size shown near =
       | inr some ↦ window_small k level shown.x shown.y r size some.inside near
     ]
 
-pub small_of : (actives : List Region) (level : ℕ) → level < length actives → AreActive actives → IsSmall (active_of actives level)
-unfolding active_of
+pub small_of : (actives : List Region) (level : ℕ) → level < length actives → AreActive actives → IsSmall (active_at actives level)
+unfolding active_at
 small_of actives level low drawn =
     shown_small drawn.k level (get_or actives level empty_region) drawn.size (drawn.drawn.shown level low) (drawn.drawn.near level empty_region low)
 
 -- ---- rings
-ring_after : (actives : List Region) (level : ℕ) (finer : Ring) → AreActive actives → level < length actives → IsBefore actives level finer → HasHole (active_of actives level) (hole finer.active)
+ring_after : (actives : List Region) (level : ℕ) (finer : Ring) → AreActive actives → level < length actives → IsBefore actives level finer → HasHole (active_at actives level) (hole finer.active)
 ring_after actives level finer drawn low before =
     elim (hole_or_none finer.active) [
       | inl none ↦ inl none
-      | inr some ↦ let inner : IsInner (margin drawn.k) finer.active (active_of actives level) = subst (λ (r : Region). IsInner (margin drawn.k) r (active_of actives level)) (sym before.region) (inner_finer actives level drawn low) in
-          let w : Within (active_of actives level) (hole finer.active) = hole_within (margin drawn.k) finer.active (active_of actives level) inner some in
+      | inr some ↦ let inner : IsInner (margin drawn.k) finer.active (active_at actives level) = subst (λ (r : Region). IsInner (margin drawn.k) r (active_at actives level)) (sym before.region) (inner_finer actives level drawn low) in
+          let w : Within (active_at actives level) (hole finer.active) = hole_within (margin drawn.k) finer.active (active_at actives level) inner some in
           inr (record { west = w.west; across = some.across; east = w.east; north = w.north; along = some.along; south = w.south })
     ]
 
@@ -118,7 +118,7 @@ size_of ring is =
     let product : columns ring.active * rows ring.active ≤ 255 * 255 = mul-le-mul is.small.few_columns is.small.few_rows in
     omega arith
 
-pub next_own : (actives : List Region) (level : ℕ) (finer : Ring) → AreActive actives → level < length actives → IsBefore actives level finer → IsRing (next_ring finer (active_of actives level))
+pub next_own : (actives : List Region) (level : ℕ) (finer : Ring) → AreActive actives → level < length actives → IsBefore actives level finer → IsRing (next_ring finer (active_at actives level))
 unfolding next_ring
 next_own actives level finer drawn low before =
     let few = before.few in
@@ -130,7 +130,7 @@ next_own actives level finer drawn low before =
       few = omega arith;
     }
 
-pub next_linked : (actives : List Region) (level : ℕ) (finer : Ring) → AreActive actives → level < length actives → IsBefore actives level finer → AreLinked finer (next_ring finer (active_of actives level))
+pub next_linked : (actives : List Region) (level : ℕ) (finer : Ring) → AreActive actives → level < length actives → IsBefore actives level finer → AreLinked finer (next_ring finer (active_at actives level))
 unfolding next_ring
 next_linked actives level finer drawn low before = record {
   before = before.own;
@@ -139,7 +139,7 @@ next_linked actives level finer drawn low before = record {
   even = subst IsEvenOrEmpty (sym before.region) (even_finer actives level low drawn);
 }
 
-pub next_before : (actives : List Region) (level : ℕ) (finer : Ring) → AreActive actives → level < length actives → IsBefore actives level finer → IsBefore actives (level + 1) (next_ring finer (active_of actives level))
+pub next_before : (actives : List Region) (level : ℕ) (finer : Ring) → AreActive actives → level < length actives → IsBefore actives level finer → IsBefore actives (level + 1) (next_ring finer (active_at actives level))
 unfolding next_ring
 next_before actives level finer drawn low before =
     let few = before.few in

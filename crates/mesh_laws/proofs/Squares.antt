@@ -10,7 +10,7 @@ use Rattle.mesh_model.specs.declared.shapes.Vertex.{Vertex}
 use Rattle.mesh_model.specs.declared.shapes.PartKind.{PartKind}
 use Rattle.mesh_model.specs.declared.shapes.PartKind.TheVariants.{Whole, North, West, East, South}
 use Rattle.mesh_model.specs.Vertices.{hole, mesh_vertices, place_of}
-use Rattle.mesh_model.specs.Parts.{PartTriangles, corner_place, square_triangles, squares_between, square_part, square_parts, square_parts_from}
+use Rattle.mesh_model.specs.Parts.{PartTriangles, corner_place, square_triangles, corners_at, squares_in, square_part, square_parts, square_parts_from}
 use Rattle.mesh_model.specs.Laws.{VerticesApart, OwnPlaces}
 use Rattle.mesh_laws.specs.declared.ring.Ring.{Ring}
 use Rattle.mesh_laws.specs.Rings.{no_ring, next_ring, place_in, corner_of, ring_square, ring_triangles, ring_part, ring_parts, ring_parts_from}
@@ -81,8 +81,8 @@ block_corner ring x0 x1 y0 y1 block i j west east north south =
     }
 
 block_same : (vertices : List Vertex) (level : ℕ) (kind : PartKind) (finer ring : Ring) (x0 x1 y0 y1 : ℤ) → HasRim vertices level finer ring.hole → IsPlaced vertices level ring →
-    IsBlock ring x0 x1 y0 y1 → square_part vertices level kind (squares_between x0 x1 y0 y1) ≡ ring_part finer ring level kind (squares_between x0 x1 y0 y1)
-unfolding square_part ring_part ring_triangles squares_between square_triangles ring_square
+    IsBlock ring x0 x1 y0 y1 → square_part vertices level kind (squares_in (corners_at x0 y0 x1 y1)) ≡ ring_part finer ring level kind (squares_in (corners_at x0 y0 x1 y1))
+unfolding square_part ring_part ring_triangles squares_in square_triangles ring_square
 block_same vertices level kind finer ring x0 x1 y0 y1 rim placed block =
     ap {A = List (List ℕ)} {B = PartTriangles} (λ triangles. record { level = level; kind = kind; triangles = triangles })
     (flat_map_same (λ cell. square_triangles vertices level cell.0 cell.1) (λ cell. ring_square finer ring cell.0 cell.1) (cells squares)
@@ -135,15 +135,15 @@ parts_same vertices level e finer active rim placed inner =
     }
 
     around : HasCell gap →
-        square_part vertices level North (squares_between active.x0 active.x1 active.y0 gap.y0)
-        ∷ square_part vertices level West (squares_between active.x0 gap.x0 gap.y0 gap.y1)
-        ∷ square_part vertices level East (squares_between gap.x1 active.x1 gap.y0 gap.y1)
-        ∷ square_part vertices level South (squares_between active.x0 active.x1 gap.y1 active.y1)
+        square_part vertices level North (squares_in (corners_at active.x0 active.y0 active.x1 gap.y0))
+        ∷ square_part vertices level West (squares_in (corners_at active.x0 gap.y0 gap.x0 gap.y1))
+        ∷ square_part vertices level East (squares_in (corners_at gap.x1 gap.y0 active.x1 gap.y1))
+        ∷ square_part vertices level South (squares_in (corners_at active.x0 gap.y1 active.x1 active.y1))
         ∷ []
-        ≡ ring_part finer ring level North (squares_between active.x0 active.x1 active.y0 gap.y0)
-        ∷ ring_part finer ring level West (squares_between active.x0 gap.x0 gap.y0 gap.y1)
-        ∷ ring_part finer ring level East (squares_between gap.x1 active.x1 gap.y0 gap.y1)
-        ∷ ring_part finer ring level South (squares_between active.x0 active.x1 gap.y1 active.y1)
+        ≡ ring_part finer ring level North (squares_in (corners_at active.x0 active.y0 active.x1 gap.y0))
+        ∷ ring_part finer ring level West (squares_in (corners_at active.x0 gap.y0 gap.x0 gap.y1))
+        ∷ ring_part finer ring level East (squares_in (corners_at gap.x1 gap.y0 active.x1 gap.y1))
+        ∷ ring_part finer ring level South (squares_in (corners_at active.x0 gap.y1 active.x1 active.y1))
         ∷ []
     around some =
         let w : Within active gap = hole_within e finer.active active inner some in

@@ -7,9 +7,8 @@ use Rattle.plan_model.specs.Laws.{AreNested}
 use Rattle.terrain_model.specs.Terrain.{Terrain}
 use Rattle.mesh_model.specs.declared.shapes.Vertex.{Vertex}
 use Rattle.mesh_model.specs.Nested.{StandApart}
-use Rattle.mesh_model.specs.Vertices.{LevelCell, hole, cells_outside, listed_from, listed_vertices, vertex_at, mesh_vertices, place_of}
+use Rattle.mesh_model.specs.Vertices.{LevelCell, hole, cells_outside, listed_from, listed_vertices, vertex_at, mesh_vertices, place_of, vertex_of_place}
 use Rattle.mesh_model.specs.Parts.{corner_place}
-use Rattle.mesh_model.specs.Watertight.{vertex_of_place}
 use Rattle.mesh_model.specs.Laws.{OwnPlaces}
 use Rattle.mesh_laws.specs.Rings.{listed_before}
 use Rattle.mesh_laws.proofs.Lists.{IsAt, at_left, at_right, at_map}
@@ -57,7 +56,7 @@ all_listed e actives nested = levels_listed (listed_vertices actives) [] 0 e emp
 -- the vertex at the place of the position of a listed cell
 pub vertex_there : (terrain : Terrain) (k : ℕ) (actives : List Region) (cell : LevelCell) → AllPairs StandApart (mesh_vertices terrain k actives) → OwnPlaces → Stands (listed_vertices actives) cell →
     vertex_of_place (mesh_vertices terrain k actives) (corner_place (mesh_vertices terrain k actives) cell.level cell.i cell.j) ≡ vertex_at terrain k actives cell
-unfolding mesh_vertices vertex_at corner_place vertex_of_place
+unfolding mesh_vertices vertex_at corner_place
 vertex_there terrain k actives cell apart own stands =
     let n = stands.place in
     let vertices = map (vertex_at terrain k actives) (listed_vertices actives) in

@@ -1,5 +1,5 @@
 -- Laws over the definitions alone.
-use Rattle.std.specs.Prelude.{◌≡◌, ℕ, ◌+◌, ◌^◌, ◌<◌, ◌≤◌, true, false, ◌&&◌, ℤ, pos, ◌+ℤ◌, ◌*ℤ◌, int_le, List, ◌∷◌, ◌++◌, map, flat_map, count_by, length, if◌then◌else◌}
+use Rattle.std.specs.Prelude.{◌≡◌, ℕ, ◌+◌, ◌^◌, ◌<◌, ◌≤◌, true, false, ◌&&◌, ℤ, pos, ◌+ℤ◌, ◌*ℤ◌, int_le, List, All, ◌∷◌, ◌++◌, map, flat_map, count_by, length, if◌then◌else◌}
 use Rattle.std.specs.Int.{int_gap}
 use Rattle.clip_regions.specs.declared.region.Region.{Region}
 use Rattle.clip_regions.specs.Regions.{contains, empty_region, columns, rows, numbers_from}
@@ -8,16 +8,16 @@ use Rattle.plan_model.specs.Window.{IsInReach}
 use Rattle.plan_model.specs.Limits.{IsSize}
 use Rattle.terrain_model.specs.Terrain.{Terrain, IsTerrain}
 use Rattle.mesh_model.specs.declared.shapes.Vertex.{Vertex}
-use Rattle.mesh_model.specs.Height.{active_of, lower_end, upper_end, vertex_height}
+use Rattle.mesh_model.specs.Height.{active_at, lower_end, upper_end, vertex_height}
 use Rattle.mesh_model.specs.Vertices.{hole, cells_outside, mesh_vertices}
-use Rattle.mesh_model.specs.Parts.{square_parts, square_parts_from, all_stitch_parts}
+use Rattle.mesh_model.specs.Parts.{squares_in, square_parts, square_parts_from, all_stitch_parts}
 use Rattle.mesh_model.specs.Mesh.{mesh}
 use Rattle.mesh_model.specs.Rings.{unstitched}
 use Rattle.mesh_model.specs.Conditions.{NameVertices}
 use Rattle.mesh_laws.specs.declared.ring.Ring.{Ring}
 use Rattle.mesh_laws.specs.Rings.{no_ring, next_ring, ring_size, ring_row, run, ring_parts_from}
 use Rattle.mesh_laws.specs.Stitches.{all_ring_stitches}
-use Rattle.mesh_laws.specs.Squares.{squares_in, part_squares, triangles_in}
+use Rattle.mesh_laws.specs.Squares.{part_squares, triangles_in}
 use Rattle.active_region.specs.Active.{AreActive}
 use Rattle.mesh_laws.specs.Conditions.{IsCell, IsNear, IsSmall, HasHole, IsRing, AreLinked, IsBefore, IsAtMost}
 
@@ -73,12 +73,12 @@ FirstRing = (actives : List Region) → IsBefore actives 0 no_ring
 abbrev pub NextLinked : Type 0
 NextLinked =
     (actives : List Region) (level : ℕ) (finer : Ring) → AreActive actives → level < length actives → IsBefore actives level finer →
-    AreLinked finer (next_ring finer (active_of actives level))
+    AreLinked finer (next_ring finer (active_at actives level))
 
 abbrev pub NextRing : Type 0
 NextRing =
     (actives : List Region) (level : ℕ) (finer : Ring) → AreActive actives → level < length actives → IsBefore actives level finer →
-    IsBefore actives (level + 1) (next_ring finer (active_of actives level))
+    IsBefore actives (level + 1) (next_ring finer (active_at actives level))
 
 -- a ring lists at most 255 times 255 vertices
 abbrev pub RingSize : Type 0
@@ -87,24 +87,24 @@ RingSize = (ring : Ring) → IsRing ring → ring_size ring ≤ 65025
 -- the cells of an active region lie within 2^23 samples of the mosaic's corner
 abbrev pub ActivesReach : Type 0
 ActivesReach =
-    (actives : List Region) (level : ℕ) → AreActive actives → level < length actives → IsInReach level (active_of actives level)
+    (actives : List Region) (level : ℕ) → AreActive actives → level < length actives → IsInReach level (active_at actives level)
 
 -- and so does the sample at each of its cells
 abbrev pub CellsReach : Type 0
 CellsReach =
     (actives : List Region) (level : ℕ) (i j : ℤ) → AreActive actives → level < length actives →
-    contains (active_of actives level) i j ≡ true → IsNear level i × IsNear level j
+    contains (active_at actives level) i j ≡ true → IsNear level i × IsNear level j
 
 -- the two coarser cells between which a cell lies are cells of the coarser active region
 abbrev pub LowerEnds : Type 0
 LowerEnds =
     (actives : List Region) (level : ℕ) (i j : ℤ) → AreActive actives → level + 1 < length actives →
-    IsCell (active_of actives level) i j → contains (active_of actives (level + 1)) (lower_end i) (lower_end j) ≡ true
+    IsCell (active_at actives level) i j → contains (active_at actives (level + 1)) (lower_end i) (lower_end j) ≡ true
 
 abbrev pub UpperEnds : Type 0
 UpperEnds =
     (actives : List Region) (level : ℕ) (i j : ℤ) → AreActive actives → level + 1 < length actives →
-    IsCell (active_of actives level) i j → contains (active_of actives (level + 1)) (upper_end i) (upper_end j) ≡ true
+    IsCell (active_at actives level) i j → contains (active_at actives (level + 1)) (upper_end i) (upper_end j) ≡ true
 
 -- the triangles of the mesh without its stitches name its vertices
 abbrev pub UnstitchedNames : Type 0
@@ -129,7 +129,7 @@ FewRingTriangles =
 abbrev pub HeightsAreSmall : Type 0
 HeightsAreSmall =
     (terrain : Terrain) (k : ℕ) (actives : List Region) (level : ℕ) (i j : ℤ) → IsTerrain terrain → IsSize k →
-    contains (active_of actives level) i j ≡ true → IsAtMost (2 ^ 20) (vertex_height terrain k actives level i j)
+    contains (active_at actives level) i j ≡ true → IsAtMost (2 ^ 20) (vertex_height terrain k actives level i j)
 
 -- the triangles of the parts of an active region are those of their squares
 abbrev pub PartSquares : Type 0
@@ -143,3 +143,8 @@ SquaresOnce =
     (finer active : Region) (i j : ℤ) → HasHole active (hole finer) →
     count_by (λ squares. contains squares i j) (squares_in (hole finer) ∷ part_squares finer active)
     ≡ (if contains (squares_in active) i j then 1 else 0)
+
+-- each part of the mesh of a frame's active regions has a triangle, so that its bounds are those of some vertices
+abbrev pub FilledParts : Type 0
+FilledParts =
+    (terrain : Terrain) (k : ℕ) (actives : List Region) → AreActive actives → All (λ part. 1 ≤ part.count) (mesh terrain k actives).parts

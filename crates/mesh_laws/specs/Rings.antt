@@ -6,9 +6,9 @@ use Rattle.clip_regions.specs.declared.region.Region.{Region}
 use Rattle.clip_regions.specs.Regions.{contains, is_empty, empty_region, columns, rows, area, cells}
 use Rattle.mesh_model.specs.declared.shapes.PartKind.{PartKind}
 use Rattle.mesh_model.specs.declared.shapes.PartKind.TheVariants.{Whole, North, West, East, South}
-use Rattle.mesh_model.specs.Height.{active_of}
+use Rattle.mesh_model.specs.Height.{active_at}
 use Rattle.mesh_model.specs.Vertices.{hole}
-use Rattle.mesh_model.specs.Parts.{PartTriangles, squares_between}
+use Rattle.mesh_model.specs.Parts.{PartTriangles, corners_at, squares_in}
 use Rattle.mesh_laws.specs.declared.ring.Ring.{Ring}
 
 -- the ring that stands before the finest one: it has no cell
@@ -27,7 +27,7 @@ next_ring finer active =
 -- the active region of the next finer level, and the empty one before the finest
 abbrev pub finer_of : List Region → ℕ → Region
 finer_of actives zero = empty_region
-finer_of actives (suc level) = active_of actives level
+finer_of actives (suc level) = active_at actives level
 
 -- n cells of row j, from column i on
 unfoldable pub run : ℤ → ℤ → ℕ → List (ℤ × ℤ)
@@ -80,12 +80,12 @@ ring_parts level finer ring =
     let active = ring.active in
     if is_empty active then []
     else if is_empty gap then
-    ring_part finer ring level Whole (squares_between active.x0 active.x1 active.y0 active.y1) ∷ []
+    ring_part finer ring level Whole (squares_in active) ∷ []
     else
-    ring_part finer ring level North (squares_between active.x0 active.x1 active.y0 gap.y0)
-    ∷ ring_part finer ring level West (squares_between active.x0 gap.x0 gap.y0 gap.y1)
-    ∷ ring_part finer ring level East (squares_between gap.x1 active.x1 gap.y0 gap.y1)
-    ∷ ring_part finer ring level South (squares_between active.x0 active.x1 gap.y1 active.y1)
+    ring_part finer ring level North (squares_in (corners_at active.x0 active.y0 active.x1 gap.y0))
+    ∷ ring_part finer ring level West (squares_in (corners_at active.x0 gap.y0 gap.x0 gap.y1))
+    ∷ ring_part finer ring level East (squares_in (corners_at gap.x1 gap.y0 active.x1 gap.y1))
+    ∷ ring_part finer ring level South (squares_in (corners_at active.x0 gap.y1 active.x1 active.y1))
     ∷ []
 
 -- the parts of the rings of these regions, from this level on, after the next finer ring

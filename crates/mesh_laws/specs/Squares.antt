@@ -4,11 +4,7 @@ use Rattle.clip_regions.specs.declared.region.Region.{Region}
 use Rattle.clip_regions.specs.Regions.{is_empty, cells}
 use Rattle.mesh_model.specs.declared.shapes.Vertex.{Vertex}
 use Rattle.mesh_model.specs.Vertices.{hole}
-use Rattle.mesh_model.specs.Parts.{squares_between, square_triangles}
-
--- the squares between the cells of a region
-unfoldable pub squares_in : Region → Region
-squares_in r = squares_between r.x0 r.x1 r.y0 r.y1
+use Rattle.mesh_model.specs.Parts.{corners_at, squares_in, square_triangles}
 
 -- the squares of each part of an active region: all of them where it has no hole, else those north, west, east and south of it
 unfoldable pub part_squares : Region → Region → List Region
@@ -17,10 +13,10 @@ part_squares finer active =
     if is_empty active then []
     else if is_empty gap then squares_in active ∷ []
     else
-    squares_between active.x0 active.x1 active.y0 gap.y0
-    ∷ squares_between active.x0 gap.x0 gap.y0 gap.y1
-    ∷ squares_between gap.x1 active.x1 gap.y0 gap.y1
-    ∷ squares_between active.x0 active.x1 gap.y1 active.y1
+    squares_in (corners_at active.x0 active.y0 active.x1 gap.y0)
+    ∷ squares_in (corners_at active.x0 gap.y0 gap.x0 gap.y1)
+    ∷ squares_in (corners_at gap.x1 gap.y0 active.x1 gap.y1)
+    ∷ squares_in (corners_at active.x0 gap.y1 active.x1 active.y1)
     ∷ []
 
 -- the triangles of some squares, row by row

@@ -1,6 +1,6 @@
 //! Laws over the definitions alone: each function's contract is the law.
 
-ghost use Rattle.mesh_laws.specs.Laws.{RingParts, RingStitches, RingRows, WholeRow, CutRow, HoleCells, CellsAreContained, HolesAreSmall, FirstRing, NextLinked, NextRing, RingSize, ActivesReach, CellsReach, LowerEnds, UpperEnds, UnstitchedNames, FewVertices, FewTriangles, FewRingTriangles, HeightsAreSmall, PartSquares, SquaresOnce};
+ghost use Rattle.mesh_laws.specs.Laws.{RingParts, RingStitches, RingRows, WholeRow, CutRow, HoleCells, CellsAreContained, HolesAreSmall, FirstRing, NextLinked, NextRing, RingSize, ActivesReach, CellsReach, LowerEnds, UpperEnds, UnstitchedNames, FewVertices, FewTriangles, FewRingTriangles, HeightsAreSmall, PartSquares, SquaresOnce, FilledParts};
 ghost use Rattle.mesh_laws.specs.Seams.{BordersAgree, FlatStitches, CoveringSquares};
 
 use mesh_model::{nested_counts, nested_names, vertices_apart};
@@ -73,6 +73,11 @@ pub fn heights_are_small()
 pub fn parts_have_ring_squares()
     ensures squares { PartSquares }
     ensures once { SquaresOnce }
+{}
+
+/// Each part of the mesh of a frame's active regions has a triangle.
+pub fn parts_have_triangles()
+    ensures { FilledParts }
 {}
 
 /// Where a level's vertices stand on the border of the finer active region, both levels give one height.

@@ -10,7 +10,7 @@ mod ring;
 
 pub use laws::{
     actives_are_in_reach, borders_agree, ends_are_active, heights_are_small, holes_are_in_regions,
-    meshes_are_small, parts_have_ring_squares, ring_parts_are_square_parts,
+    meshes_are_small, parts_have_ring_squares, parts_have_triangles, ring_parts_are_square_parts,
     ring_stitches_are_stitch_parts, rings_are_linked, rings_have_rows, squares_cover,
     stitches_are_flat,
 };

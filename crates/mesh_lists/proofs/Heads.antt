@@ -6,7 +6,7 @@ use Rattle.std.proofs.lemmas.List.{drop-drop, get_or_default}
 use Rattle.std.proofs.lemmas.List.Elements.{All-append, All-cons, All-nil}
 use Rattle.clip_regions.specs.declared.region.Region.{Region}
 use Rattle.mesh_model.specs.Watertight.{covered, scaled}
-use Rattle.mesh_model.specs.Height.{active_of}
+use Rattle.mesh_model.specs.Height.{active_at}
 use Rattle.clip_regions.specs.Regions.{empty_region}
 use Rattle.mesh_lists.specs.Lines.{Follows, LeavesBehind, cut_line, leading, onto, parts_at, whole_lines}
 use Rattle.mesh_lists.specs.Says.{frame_of, viewer_of, kept_of, level_of, behind, where_true}
@@ -164,7 +164,7 @@ near_told r answer is = told_by (are_near r) r answer (is ∙ near_is r)
 -- the last of some regions by positions
 pub covered_is : (regions : List Region) (spacing : ℤ) (d : Region) → 0 < length regions → spacing ≡ pos (2 ^ (length regions - 1)) →
     scaled spacing (get_or regions (length regions - 1) d) ≡ covered regions
-unfolding covered active_of
+unfolding covered active_at
 covered_is regions spacing d some is =
     let region : get_or regions (length regions - 1) d ≡ get_or regions (length regions - 1) empty_region = get_or_default regions (length regions - 1) d empty_region (omega arith) in
     ap (λ (r : Region). scaled spacing r) region ∙ ap (λ (s : ℤ). scaled s (get_or regions (length regions - 1) empty_region)) is

@@ -1,5 +1,5 @@
 -- How long the lists of one active region are, and which places its triangles name.
-use Rattle.std.proofs.Common.{◌≡◌, ℕ, zero, suc, ◌+◌, ◌-◌, ◌*◌, ◌<◌, ◌≤◌, List, [], ◌∷◌, length, slice_index_or, refl, length-append, arith}
+use Rattle.std.proofs.Common.{pos, ◌≡◌, ℕ, zero, suc, ◌+◌, ◌-◌, ◌*◌, ◌<◌, ◌≤◌, List, [], ◌∷◌, length, slice_index_or, refl, length-append, arith}
 use Rattle.std.proofs.Math.Nat.{mul-le-mul_left}
 use Rattle.std.specs.List.{All, flat_map, range_with_len}
 use Rattle.std.proofs.lemmas.List.Elements.{All-nil, All-cons, All-append, All-weaker, All-take, All-drop}
@@ -75,7 +75,7 @@ held vertices triangles part inside named =
     All-cons (λ p. HoldsVertices vertices p.bounds (triangles_of_part triangles p)) part [] whole (All-nil (λ p. HoldsVertices vertices p.bounds (triangles_of_part triangles p)))
   where
     corner : Vertex
-    corner = record { x = part.bounds.x0; z = part.bounds.z0; height = part.bounds.low }
+    corner = record { x = pos 0; z = pos 0; height = pos 0 }
 
     P : List ℕ → Type 0
     P triangle = All (λ place. IsInside part.bounds (slice_index_or vertices place corner)) triangle

@@ -4,7 +4,7 @@ use Rattle.std.proofs.lemmas.Int.{ints}
 use Rattle.clip_regions.specs.declared.region.Region.{Region}
 use Rattle.plan_model.specs.Window.{blend_width}
 use Rattle.terrain_model.specs.Terrain.{Terrain, height_at, level_height}
-use Rattle.mesh_model.specs.Height.{blend_share, blended_height, vertex_height, active_of, lower_end, upper_end}
+use Rattle.mesh_model.specs.Height.{blend_share, blended_height, vertex_height, active_at, lower_end, upper_end}
 
 pub times_one : (x : ℤ) → x *ℤ pos 1 ≡ x
 times_one x = omega (arith, ints)
@@ -36,5 +36,5 @@ unblended k r i j own a b high = weighed (2 ^ (k - 4)) (32 / 2 ^ (k - 4)) (16 / 
 pub one_level_height : (terrain : Terrain) (k : ℕ) (r : Region) (i j : ℤ) → k ≤ 8 → vertex_height terrain k (r ∷ []) 0 i j ≡ pos 32 *ℤ height_at terrain i j
 unfolding vertex_height level_height
 one_level_height terrain k r i j high =
-    unblended k (active_of (r ∷ []) 0) i j (height_at terrain (i *ℤ pos (2 ^ 0)) (j *ℤ pos (2 ^ 0))) (level_height terrain 1 (lower_end i) (lower_end j)) (level_height terrain 1 (upper_end i) (upper_end j)) high
+    unblended k (active_at (r ∷ []) 0) i j (height_at terrain (i *ℤ pos (2 ^ 0)) (j *ℤ pos (2 ^ 0))) (level_height terrain 1 (lower_end i) (lower_end j)) (level_height terrain 1 (upper_end i) (upper_end j)) high
     ∙ ap (λ h. pos 32 *ℤ h) (λ t. height_at terrain (times_one i t) (times_one j t))

@@ -13,7 +13,7 @@ use Rattle.mesh_model.specs.declared.shapes.Vertex.{Vertex}
 use Rattle.mesh_model.specs.declared.shapes.PartKind.{PartKind}
 use Rattle.mesh_model.specs.declared.shapes.PartKind.TheVariants.{Whole, North, West, East, South, StitchNorth, StitchEast, StitchSouth, StitchWest}
 use Rattle.mesh_model.specs.Vertices.{hole, mesh_vertices}
-use Rattle.mesh_model.specs.Parts.{PartTriangles, corner_place, square_triangles, squares_between, square_part, square_parts, stitches_from, stitches_along, places_in_row, places_in_column, stitch_part, stitch_parts, square_parts_from, stitch_parts_from, all_stitch_parts, parts_of_regions}
+use Rattle.mesh_model.specs.Parts.{PartTriangles, corner_place, square_triangles, corners_at, squares_in, square_part, square_parts, stitches_from, stitches_along, places_in_row, places_in_column, stitch_part, stitch_parts, square_parts_from, stitch_parts_from, all_stitch_parts, parts_of_regions}
 use Rattle.mesh_model.specs.Mesh.{mesh, mesh_of_parts}
 use Rattle.mesh_model.specs.Conditions.{NameVertices}
 use Rattle.mesh_model.proofs.Counts.{all_three}
@@ -61,8 +61,8 @@ record Lines (r : Region) (x0 x1 y0 y1 : ℤ) : Type 0 where
   south : y1 ≤ℤ r.y1
 
 part_named : (vertices : List Vertex) (level : ℕ) (kind : PartKind) (r : Region) (x0 x1 y0 y1 : ℤ) → IsListed vertices level r → Lines r x0 x1 y0 y1 →
-    IsNamed vertices (square_part vertices level kind (squares_between x0 x1 y0 y1))
-unfolding square_part squares_between
+    IsNamed vertices (square_part vertices level kind (squares_in (corners_at x0 y0 x1 y1)))
+unfolding square_part squares_in
 part_named vertices level kind r x0 x1 y0 y1 listed lines =
     all_flat_map (Below (length vertices)) (λ cell. square_triangles vertices level cell.0 cell.1) (cells squares)
     (all_cells (λ cell. NameVertices (length vertices) (square_triangles vertices level cell.0 cell.1)) squares (λ i j cell. square_named vertices level r i j listed (inside i j cell)))
@@ -84,17 +84,17 @@ part_named vertices level kind r x0 x1 y0 y1 listed lines =
 -- the square parts of a region round its hole
 ring_named : (vertices : List Vertex) (level : ℕ) (gap active : Region) → IsListed vertices level active → HasCell gap → Within active gap →
     All (IsNamed vertices)
-    (square_part vertices level North (squares_between active.x0 active.x1 active.y0 gap.y0)
-    ∷ square_part vertices level West (squares_between active.x0 gap.x0 gap.y0 gap.y1)
-    ∷ square_part vertices level East (squares_between gap.x1 active.x1 gap.y0 gap.y1)
-    ∷ square_part vertices level South (squares_between active.x0 active.x1 gap.y1 active.y1)
+    (square_part vertices level North (squares_in (corners_at active.x0 active.y0 active.x1 gap.y0))
+    ∷ square_part vertices level West (squares_in (corners_at active.x0 gap.y0 gap.x0 gap.y1))
+    ∷ square_part vertices level East (squares_in (corners_at gap.x1 gap.y0 active.x1 gap.y1))
+    ∷ square_part vertices level South (squares_in (corners_at active.x0 gap.y1 active.x1 active.y1))
     ∷ [])
 ring_named vertices level gap active listed some w =
     let P = IsNamed vertices in
-    let n = square_part vertices level North (squares_between active.x0 active.x1 active.y0 gap.y0) in
-    let w' = square_part vertices level West (squares_between active.x0 gap.x0 gap.y0 gap.y1) in
-    let e = square_part vertices level East (squares_between gap.x1 active.x1 gap.y0 gap.y1) in
-    let s = square_part vertices level South (squares_between active.x0 active.x1 gap.y1 active.y1) in
+    let n = square_part vertices level North (squares_in (corners_at active.x0 active.y0 active.x1 gap.y0)) in
+    let w' = square_part vertices level West (squares_in (corners_at active.x0 gap.y0 gap.x0 gap.y1)) in
+    let e = square_part vertices level East (squares_in (corners_at gap.x1 gap.y0 active.x1 gap.y1)) in
+    let s = square_part vertices level South (squares_in (corners_at active.x0 gap.y1 active.x1 active.y1)) in
     let n_named : P n = part_named vertices level North active active.x0 active.x1 active.y0 gap.y0 listed (record { west = omega (arith, ints); east = omega (arith, ints); north = omega (arith, ints); south = omega (arith, ints) }) in
     let w_named : P w' = part_named vertices level West active active.x0 gap.x0 gap.y0 gap.y1 listed (record { west = omega (arith, ints); east = omega (arith, ints); north = omega (arith, ints); south = omega (arith, ints) }) in
     let e_named : P e = part_named vertices level East active gap.x1 active.x1 gap.y0 gap.y1 listed (record { west = omega (arith, ints); east = omega (arith, ints); north = omega (arith, ints); south = omega (arith, ints) }) in
@@ -116,7 +116,7 @@ squares_named vertices level e finer active listed inner =
     P part = IsNamed vertices part
 
     whole : PartTriangles
-    whole = square_part vertices level Whole (squares_between active.x0 active.x1 active.y0 active.y1)
+    whole = square_part vertices level Whole (squares_in active)
 
     lines : Lines active active.x0 active.x1 active.y0 active.y1
     lines = record { west = omega (arith, ints); east = omega (arith, ints); north = omega (arith, ints); south = omega (arith, ints) }

@@ -1,10 +1,9 @@
 -- A part whose box lies outside a half-space, and the points of its triangles.
-use Rattle.std.proofs.Common.{◌≡◌, ℕ, ◌<◌, Bool, true, false, ℤ, pos, ◌+ℤ◌, ◌*ℤ◌, ◌<ℤ◌, ◌≤ℤ◌, List, [], ◌∷◌, length, map, get_or, drop, inl, inr, refl, ap, subst, ◌∙◌, arith}
+use Rattle.std.proofs.Common.{◌≡◌, ℕ, ◌<◌, Bool, true, false, ℤ, pos, ◌+ℤ◌, ◌*ℤ◌, ◌<ℤ◌, ◌≤ℤ◌, List, [], ◌∷◌, length, map, get_or, drop, inl, inr, refl, ap, ◌∙◌, arith}
 use Rattle.std.specs.List.{All, Contains, list_any, flat_map}
 use Rattle.std.specs.Prelude.{int_lt}
 use Rattle.std.proofs.lemmas.Int.{ints}
 use Rattle.std.proofs.lemmas.Bool.{or_cases, false≢true, not-false, not_from_true, cases_Bool}
-use Rattle.std.proofs.lemmas.List.{get_or_default}
 use Rattle.std.proofs.lemmas.List.Folds.{list_any_at}
 use Rattle.std.proofs.lemmas.List.Elements.{All-nil, All-head, All-tail, All-append, All-map, All-take, All-drop, All-weaker, All-contains, Contains-append_right}
 use Rattle.clip_regions.proofs.Cells.{lt_tested}
@@ -46,7 +45,7 @@ unfolding vertices_of none
 boxed vertices box triangles named held =
     all_flat (IsInside box) (λ triangle. map (λ place. get_or vertices place none) triangle) triangles
     (λ k d low. All-map (IsInside box) (λ place. get_or vertices place none) (get_or triangles k d)
-    (λ k' d' low'. subst (IsInside box) (get_or_default vertices (get_or (get_or triangles k d) k' d') (record { x = box.x0; z = box.z0; height = box.low }) none (named k d low k' d' low')) (held k d low k' d' low')))
+    (λ k' d' low'. held k d low k' d' low'))
 
 -- the vertices of a part of a mesh lie in its box
 pub part_boxed : (lists : MeshLists) (part : Part) → IsMesh lists → Contains lists.parts part → All (IsInside part.bounds) (part_vertices lists part)

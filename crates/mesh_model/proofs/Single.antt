@@ -10,7 +10,7 @@ use Rattle.terrain_model.specs.Terrain.{Terrain}
 use Rattle.mesh_model.specs.declared.shapes.Vertex.{Vertex}
 use Rattle.mesh_model.specs.declared.shapes.PartKind.TheVariants.{Whole}
 use Rattle.mesh_model.specs.Vertices.{LevelCell, hole, cells_outside, vertex_at, mesh_vertices, place_of}
-use Rattle.mesh_model.specs.Parts.{corner_place, square_triangles, squares_between, square_part, square_parts, parts_of_regions}
+use Rattle.mesh_model.specs.Parts.{corner_place, square_triangles, squares_in, square_part, square_parts, parts_of_regions}
 use Rattle.mesh_model.specs.OneLevel.{one_level_vertex, one_level_row, one_level_vertices, one_level_square, one_level_strip, one_level_triangles}
 use Rattle.mesh_model.proofs.Ranges.{map_of_map, filter_all, map_grid, flat_map_grid, flat_map_agree}
 use Rattle.mesh_model.proofs.Places.{AreRows, place_in_rows}
@@ -116,8 +116,8 @@ gap_less a b = ap (int_gap a) (back b) ∙ step a b
         let less : x - suc y ≡ x - y - 1 = omega arith in
         less ∙ ap (λ z. int_gap (negsuc x) z - 1) (sym e)
 
-pub single_triangles : (terrain : Terrain) (r : Region) → (square_part (one_level_vertices terrain r) 0 Whole (squares_between r.x0 r.x1 r.y0 r.y1)).triangles ≡ one_level_triangles r
-unfolding square_part squares_between one_level_triangles one_level_strip columns rows
+pub single_triangles : (terrain : Terrain) (r : Region) → (square_part (one_level_vertices terrain r) 0 Whole (squares_in r)).triangles ≡ one_level_triangles r
+unfolding square_part squares_in one_level_triangles one_level_strip columns rows
 single_triangles terrain r =
     flat_map_grid (λ cell. square_triangles vertices 0 cell.0 cell.1) r.x0 r.y0 (int_gap r.x0 (r.x1 -ℤ pos 1 +ℤ pos 1)) (int_gap r.y0 (r.y1 -ℤ pos 1 +ℤ pos 1))
     ∙ (λ t. flat_map (λ v. flat_map (λ u. square_triangles vertices 0 (r.x0 +ℤ pos u) (r.y0 +ℤ pos v)) (range_with_len 0 (gap_less r.x0 r.x1 t))) (range_with_len 0 (gap_less r.y0 r.y1 t)))
@@ -129,6 +129,6 @@ single_triangles terrain r =
     vertices = one_level_vertices terrain r
 
 pub single_part : (vertices : List Vertex) (r : Region) → is_empty r ≡ false →
-    parts_of_regions vertices (r ∷ []) ≡ square_part vertices 0 Whole (squares_between r.x0 r.x1 r.y0 r.y1) ∷ []
+    parts_of_regions vertices (r ∷ []) ≡ square_part vertices 0 Whole (squares_in r) ∷ []
 unfolding parts_of_regions square_parts
 single_part vertices r some = rw (some, no_hole_empty) refl

@@ -18,7 +18,7 @@ use Rattle.mesh_model.specs.declared.shapes.Vertex.{Vertex}
 use Rattle.mesh_model.specs.declared.shapes.PartKind.{PartKind}
 use Rattle.mesh_model.specs.declared.shapes.PartKind.TheVariants.{Whole, North, West, East, South, StitchNorth, StitchEast, StitchSouth, StitchWest}
 use Rattle.mesh_model.specs.Vertices.{LevelCell, hole, cells_outside, listed_from, listed_vertices, vertex_at, mesh_vertices}
-use Rattle.mesh_model.specs.Parts.{PartTriangles, corner_place, square_triangles, squares_between, square_part, square_parts, stitches_from, stitches_along, places_in_row, places_in_column, stitch_part, stitch_parts, square_parts_from, stitch_parts_from, all_stitch_parts, parts_of_regions}
+use Rattle.mesh_model.specs.Parts.{PartTriangles, corner_place, square_triangles, corners_at, squares_in, square_part, square_parts, stitches_from, stitches_along, places_in_row, places_in_column, stitch_part, stitch_parts, square_parts_from, stitch_parts_from, all_stitch_parts, parts_of_regions}
 use Rattle.mesh_model.specs.Mesh.{mesh, mesh_of_parts}
 use Rattle.mesh_model.specs.Nested.{vertex_count, square_count, ring_count, border_count, stitch_count, all_stitch_count}
 use Rattle.mesh_model.proofs.Rectangles.{IsInner, hole_within, half_and_rest, none_there, not_le_tested}
@@ -214,8 +214,8 @@ two_triangles vertices level i j = refl
 back : (x : ℤ) → x -ℤ pos 1 +ℤ pos 1 ≡ x
 back x = omega (arith, ints)
 
-part_length : (vertices : List Vertex) (level : ℕ) (kind : PartKind) (x0 x1 y0 y1 : ℤ) → length (square_part vertices level kind (squares_between x0 x1 y0 y1)).triangles ≡ 2 * (int_gap x0 x1 * int_gap y0 y1)
-unfolding square_part squares_between area columns rows
+pub part_length : (vertices : List Vertex) (level : ℕ) (kind : PartKind) (x0 x1 y0 y1 : ℤ) → length (square_part vertices level kind (squares_in (corners_at x0 y0 x1 y1))).triangles ≡ 2 * (int_gap x0 x1 * int_gap y0 y1)
+unfolding square_part squares_in area columns rows
 part_length vertices level kind x0 x1 y0 y1 =
     let squares : Region = record { x0 = x0; y0 = y0; x1 = x1 -ℤ pos 1; y1 = y1 -ℤ pos 1 } in
     length_each (λ cell. square_triangles vertices level cell.0 cell.1) 2 (λ cell. two_triangles vertices level cell.0 cell.1) (cells squares)
@@ -246,17 +246,17 @@ squares_are r = λ t. sym (one_less r.x0 r.x1) t * sym (one_less r.y0 r.y1) t
 
 ring_length : (vertices : List Vertex) (level : ℕ) (gap active : Region) → HasCell gap → Within active gap →
     triangles_in
-    (square_part vertices level North (squares_between active.x0 active.x1 active.y0 gap.y0)
-    ∷ square_part vertices level West (squares_between active.x0 gap.x0 gap.y0 gap.y1)
-    ∷ square_part vertices level East (squares_between gap.x1 active.x1 gap.y0 gap.y1)
-    ∷ square_part vertices level South (squares_between active.x0 active.x1 gap.y1 active.y1)
+    (square_part vertices level North (squares_in (corners_at active.x0 active.y0 active.x1 gap.y0))
+    ∷ square_part vertices level West (squares_in (corners_at active.x0 gap.y0 gap.x0 gap.y1))
+    ∷ square_part vertices level East (squares_in (corners_at gap.x1 gap.y0 active.x1 gap.y1))
+    ∷ square_part vertices level South (squares_in (corners_at active.x0 gap.y1 active.x1 active.y1))
     ∷ [])
     ≡ 2 * (square_count active - square_count gap)
 ring_length vertices level gap active some w =
-    let n = square_part vertices level North (squares_between active.x0 active.x1 active.y0 gap.y0) in
-    let w' = square_part vertices level West (squares_between active.x0 gap.x0 gap.y0 gap.y1) in
-    let e = square_part vertices level East (squares_between gap.x1 active.x1 gap.y0 gap.y1) in
-    let s = square_part vertices level South (squares_between active.x0 active.x1 gap.y1 active.y1) in
+    let n = square_part vertices level North (squares_in (corners_at active.x0 active.y0 active.x1 gap.y0)) in
+    let w' = square_part vertices level West (squares_in (corners_at active.x0 gap.y0 gap.x0 gap.y1)) in
+    let e = square_part vertices level East (squares_in (corners_at gap.x1 gap.y0 active.x1 gap.y1)) in
+    let s = square_part vertices level South (squares_in (corners_at active.x0 gap.y1 active.x1 active.y1)) in
     let n_more = part_more n (w' ∷ e ∷ s ∷ []) in
     let w_more = part_more w' (e ∷ s ∷ []) in
     let e_more = part_more e (s ∷ []) in
@@ -283,9 +283,9 @@ squares_length vertices level e finer active inner =
       ]
     ]
   where
-    whole : is_empty (hole finer) ≡ true → triangles_in (square_part vertices level Whole (squares_between active.x0 active.x1 active.y0 active.y1) ∷ []) ≡ 2 * (square_count active - square_count (hole finer))
+    whole : is_empty (hole finer) ≡ true → triangles_in (square_part vertices level Whole (squares_in active) ∷ []) ≡ 2 * (square_count active - square_count (hole finer))
     whole closed =
-        let more = part_more (square_part vertices level Whole (squares_between active.x0 active.x1 active.y0 active.y1)) [] in
+        let more = part_more (square_part vertices level Whole (squares_in active)) [] in
         let own = part_length vertices level Whole active.x0 active.x1 active.y0 active.y1 in
         let outer = squares_are active in
         let nothing = no_squares (hole finer) closed in
@@ -312,15 +312,15 @@ along_length : (walk : List ℕ) → length walk % 2 ≡ 1 → 2 * length (stitc
 along_length [] odd = absurd (omega arith)
 along_length (p ∷ walk) odd = let rest = walk_length p walk in omega (arith, rest)
 
-row_length : (vertices : List Vertex) (level : ℕ) (r : Region) (j : ℤ) → length (places_in_row vertices level r j) ≡ columns r
+pub row_length : (vertices : List Vertex) (level : ℕ) (r : Region) (j : ℤ) → length (places_in_row vertices level r j) ≡ columns r
 unfolding places_in_row
 row_length vertices level r j = length-map (numbers_from r.x0 (columns r)) (λ i. corner_place vertices level i j) ∙ length_numbers r.x0 (columns r)
 
-column_length : (vertices : List Vertex) (level : ℕ) (r : Region) (i : ℤ) → length (places_in_column vertices level r i) ≡ rows r
+pub column_length : (vertices : List Vertex) (level : ℕ) (r : Region) (i : ℤ) → length (places_in_column vertices level r i) ≡ rows r
 unfolding places_in_column
 column_length vertices level r i = length-map (numbers_from r.y0 (rows r)) (λ j. corner_place vertices level i j) ∙ length_numbers r.y0 (rows r)
 
-odd_gap : (a b : ℤ) → floor_rem a 2 ≡ 0 → floor_rem b 2 ≡ 0 → a ≤ℤ b → int_gap a (b +ℤ pos 1) % 2 ≡ 1
+pub odd_gap : (a b : ℤ) → floor_rem a 2 ≡ 0 → floor_rem b 2 ≡ 0 → a ≤ℤ b → int_gap a (b +ℤ pos 1) % 2 ≡ 1
 odd_gap a b even_a even_b h =
     let wa : a ≡ pos 2 *ℤ floor_div a 2 +ℤ pos (floor_rem a 2) = half_and_rest a in
     let wb : b ≡ pos 2 *ℤ floor_div b 2 +ℤ pos (floor_rem b 2) = half_and_rest b in
@@ -328,7 +328,7 @@ odd_gap a b even_a even_b h =
     omega (arith, ints)
 
 -- a side of an odd number of cells has half of them, rounded down, as stitches
-side_length : (walk : List ℕ) (n : ℕ) → length walk ≡ n → n % 2 ≡ 1 → 2 * length (stitches_along walk) + 1 ≡ n
+pub side_length : (walk : List ℕ) (n : ℕ) → length walk ≡ n → n % 2 ≡ 1 → 2 * length (stitches_along walk) + 1 ≡ n
 side_length walk n e odd = along_length walk (ap (λ m. m % 2) e ∙ odd) ∙ e
 
 stitches_length : (vertices : List Vertex) (level : ℕ) (active : Region) → IsEvenOrEmpty active → triangles_in (stitch_parts vertices level active) ≡ border_count active

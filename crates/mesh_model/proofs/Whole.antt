@@ -3,7 +3,7 @@ use Rattle.std.proofs.Common.{◌≡◌, ℕ, ◌+◌, ◌<◌, List, [], ◌∷
 use Rattle.std.specs.List.{All, fold, flat_map}
 use Rattle.std.specs.Int.{int_min, int_max}
 use Rattle.std.proofs.lemmas.Int.{fold-int_min_bounds, fold-int_max_bounds}
-use Rattle.std.proofs.lemmas.List.{get_or-map, get_or_default, get_or_append_left, get_or-append-add, take_at, drop_at, length-map}
+use Rattle.std.proofs.lemmas.List.{get_or-map, get_or_append_left, get_or-append-add, take_at, drop_at, length-map}
 use Rattle.std.proofs.lemmas.List.Elements.{All-nil, All-cons}
 use Rattle.mesh_model.specs.declared.shapes.Vertex.{Vertex}
 use Rattle.mesh_model.specs.declared.shapes.Bounds.{Bounds}
@@ -60,8 +60,7 @@ held_by_bounds vertices triangles named k d low k' d' low' =
     let box : Bounds = bounds_of (vertices_of vertices triangles) in
     let none : Vertex = record { x = pos 0; z = pos 0; height = pos 0 } in
     let corners = all_of_flat_map (IsInside box) (λ triangle. map (λ place. get_or vertices place none) triangle) triangles (inside_bounds (vertices_of vertices triangles)) k d low in
-    let corner = all_of_map (IsInside box) (λ place. get_or vertices place none) (get_or triangles k d) corners k' d' low' in
-    subst (IsInside box) (get_or_default vertices (get_or (get_or triangles k d) k' d') none (record { x = box.x0; z = box.z0; height = box.low }) (named k d low k' d' low')) corner
+    all_of_map (IsInside box) (λ place. get_or vertices place none) (get_or triangles k d) corners k' d' low'
 
 covered_from : (vertices : List Vertex) (first : ℕ) (parts : List PartTriangles) → CoverInOrder first (first + length (flat_map (λ part. part.triangles) parts)) (parts_from vertices first parts)
 unfolding part_at

@@ -1,8 +1,9 @@
 -- What is demanded of the lists of a mesh.
-use Rattle.std.specs.Prelude.{◌≡◌, ℕ, ◌+◌, ◌^◌, ◌<◌, ◌≤ℤ◌, List, [], ◌∷◌, length, take, drop, All, slice_index_or}
+use Rattle.std.specs.Prelude.{◌≡◌, ℕ, ◌+◌, ◌^◌, ◌<◌, ◌≤ℤ◌, List, [], ◌∷◌, length, take, drop, All}
 use Rattle.mesh_model.specs.declared.shapes.Vertex.{Vertex}
 use Rattle.mesh_model.specs.declared.shapes.Bounds.{Bounds}
 use Rattle.mesh_model.specs.declared.shapes.Part.{Part}
+use Rattle.mesh_model.specs.Vertices.{vertex_of_place}
 use Rattle.mesh_model.specs.Mesh.{MeshLists}
 
 -- each triangle names places below this number of vertices
@@ -30,7 +31,7 @@ triangles_of_part triangles part = take part.count (drop part.first triangles)
 -- the vertices of these triangles lie in the box
 abbrev pub HoldsVertices : List Vertex → Bounds → List (List ℕ) → Type 0
 HoldsVertices vertices bounds triangles =
-    All (λ triangle. All (λ place. IsInside bounds (slice_index_or vertices place (record { x = bounds.x0; z = bounds.z0; height = bounds.low }))) triangle) triangles
+    All (λ triangle. All (λ place. IsInside bounds (vertex_of_place vertices place)) triangle) triangles
 
 -- each part's bounds hold the vertices of its triangles
 abbrev pub BoundsHold : List Vertex → List (List ℕ) → List Part → Type 0

@@ -31,8 +31,8 @@ unfoldable pub upper_end : ℤ → ℤ
 upper_end i = floor_div (i +ℤ pos 1) 2
 
 -- the active region of a level, of a list that has the finest first
-unfoldable pub active_of : List Region → ℕ → Region
-active_of actives level = slice_index_or actives level empty_region
+unfoldable pub active_at : List Region → ℕ → Region
+active_at actives level = slice_index_or actives level empty_region
 
 -- the height of vertex (i, j) of a level
 unfoldable pub vertex_height : Terrain → ℕ → List Region → ℕ → ℤ → ℤ → ℤ
@@ -40,4 +40,4 @@ vertex_height terrain k actives level i j =
     let own = level_height terrain level i j in
     let a = level_height terrain (level + 1) (lower_end i) (lower_end j) in
     let b = level_height terrain (level + 1) (upper_end i) (upper_end j) in
-    blended_height k (level + 1 == length actives) (active_of actives level) i j own a b
+    blended_height k (level + 1 == length actives) (active_at actives level) i j own a b

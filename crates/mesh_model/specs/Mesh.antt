@@ -1,12 +1,12 @@
 -- The mesh of a frame: vertices, triangles and parts.
-use Rattle.std.specs.Prelude.{ℕ, ◌+◌, ℤ, pos, List, [], ◌∷◌, length, map, flat_map, fold, get_or}
+use Rattle.std.specs.Prelude.{ℕ, ◌+◌, ℤ, pos, List, [], ◌∷◌, length, map, flat_map, fold}
 use Rattle.std.specs.Int.{int_min, int_max}
 use Rattle.clip_regions.specs.declared.region.Region.{Region}
 use Rattle.terrain_model.specs.Terrain.{Terrain}
 use Rattle.mesh_model.specs.declared.shapes.Vertex.{Vertex}
 use Rattle.mesh_model.specs.declared.shapes.Bounds.{Bounds}
 use Rattle.mesh_model.specs.declared.shapes.Part.{Part}
-use Rattle.mesh_model.specs.Vertices.{mesh_vertices}
+use Rattle.mesh_model.specs.Vertices.{mesh_vertices, vertex_of_place}
 use Rattle.mesh_model.specs.Parts.{PartTriangles, parts_of_regions}
 
 -- the lists of a mesh: its vertices, its triangles as the places of three vertices each, counted from 0, and its parts
@@ -27,7 +27,7 @@ greatest (x ∷ xs) = fold int_max x xs
 -- the vertices of some triangles, in order
 unfoldable pub vertices_of : List Vertex → List (List ℕ) → List Vertex
 vertices_of vertices triangles =
-    flat_map (λ triangle. map (λ place. get_or vertices place (record { x = pos 0; z = pos 0; height = pos 0 })) triangle) triangles
+    flat_map (λ triangle. map (vertex_of_place vertices) triangle) triangles
 
 -- the least and greatest column, row and height of some vertices
 unfoldable pub bounds_of : List Vertex → Bounds

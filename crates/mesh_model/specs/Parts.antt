@@ -26,9 +26,13 @@ square_triangles vertices level i j =
     let north_east = corner_place vertices level (i +ℤ pos 1) j in
     (north_west ∷ south_west ∷ south_east ∷ []) ∷ (north_west ∷ south_east ∷ north_east ∷ []) ∷ []
 
--- the cells in columns x0 to below x1 and rows y0 to below y1: the north-west corners of the squares between these lines
-unfoldable pub squares_between : ℤ → ℤ → ℤ → ℤ → Region
-squares_between x0 x1 y0 y1 = record { x0 = x0; y0 = y0; x1 = x1 -ℤ pos 1; y1 = y1 -ℤ pos 1 }
+-- the region with these corners
+abbrev pub corners_at : ℤ → ℤ → ℤ → ℤ → Region
+corners_at x0 y0 x1 y1 = record { x0 = x0; y0 = y0; x1 = x1; y1 = y1 }
+
+-- the north-west corners of the squares of a region: its cells but for the last column and the last row
+unfoldable pub squares_in : Region → Region
+squares_in r = record { x0 = r.x0; y0 = r.y0; x1 = r.x1 -ℤ pos 1; y1 = r.y1 -ℤ pos 1 }
 
 -- a part of the squares with these north-west corners, row by row
 unfoldable pub square_part : List Vertex → ℕ → PartKind → Region → PartTriangles
@@ -44,12 +48,12 @@ unfoldable pub square_parts : List Vertex → ℕ → Region → Region → List
 square_parts vertices level finer active =
     let gap = hole finer in
     if is_empty active then []
-    else if is_empty gap then square_part vertices level Whole (squares_between active.x0 active.x1 active.y0 active.y1) ∷ []
+    else if is_empty gap then square_part vertices level Whole (squares_in active) ∷ []
     else
-    square_part vertices level North (squares_between active.x0 active.x1 active.y0 gap.y0)
-    ∷ square_part vertices level West (squares_between active.x0 gap.x0 gap.y0 gap.y1)
-    ∷ square_part vertices level East (squares_between gap.x1 active.x1 gap.y0 gap.y1)
-    ∷ square_part vertices level South (squares_between active.x0 active.x1 gap.y1 active.y1)
+    square_part vertices level North (squares_in (corners_at active.x0 active.y0 active.x1 gap.y0))
+    ∷ square_part vertices level West (squares_in (corners_at active.x0 gap.y0 gap.x0 gap.y1))
+    ∷ square_part vertices level East (squares_in (corners_at gap.x1 gap.y0 active.x1 gap.y1))
+    ∷ square_part vertices level South (squares_in (corners_at active.x0 gap.y1 active.x1 active.y1))
     ∷ []
 
 -- each two steps of a walk, from p over m to q, as the triangle p, m, q

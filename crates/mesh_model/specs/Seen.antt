@@ -1,11 +1,11 @@
 -- The text of the parts of a frame that a view keeps. A view is a list of half-spaces, at most six.
-use Rattle.std.specs.Prelude.{ℕ, Bool, not, ◌&&◌, ◌==◌, ℤ, pos, ◌+ℤ◌, ◌*ℤ◌, List, [], ◌∷◌, ◌++◌, length, map, filter, flat_map, codes, decimal, int_lt, slice_index_or, if◌then◌else◌}
+use Rattle.std.specs.Prelude.{ℕ, Bool, not, ◌&&◌, ◌==◌, ℤ, pos, ◌+ℤ◌, ◌*ℤ◌, List, [], ◌∷◌, ◌++◌, length, map, filter, flat_map, codes, decimal, int_lt, if◌then◌else◌}
 use Rattle.std.specs.List.{range_with_len, list_any}
 use Rattle.clip_regions.specs.declared.region.Region.{Region}
-use Rattle.mesh_model.specs.declared.shapes.Vertex.{Vertex}
 use Rattle.mesh_model.specs.declared.shapes.Bounds.{Bounds}
 use Rattle.mesh_model.specs.declared.shapes.Part.{Part}
 use Rattle.mesh_model.specs.declared.shapes.HalfSpace.{HalfSpace}
+use Rattle.mesh_model.specs.Vertices.{vertex_of_place}
 use Rattle.mesh_model.specs.Mesh.{MeshLists}
 use Rattle.mesh_model.specs.Conditions.{triangles_of_part}
 use Rattle.mesh_model.specs.Text.{head_text, vertex_line, triangle_line}
@@ -76,10 +76,9 @@ kept_line kept whole = codes "# kept " ++ decimal kept ++ codes " of " ++ decima
 unfoldable pub parts_text : ℕ → ℤ → ℤ → List Region → MeshLists → List Part → List ℕ
 parts_text number x y actives lists parts =
     let triangles = triangles_of_parts lists.triangles parts in
-    let none : Vertex = record { x = pos 0; z = pos 0; height = pos 0 } in
     head_text number x y actives
     ++ kept_line (length parts) (length lists.parts)
-    ++ flat_map (λ place. vertex_line (slice_index_or lists.vertices place none))
+    ++ flat_map (λ place. vertex_line (vertex_of_place lists.vertices place))
     (named_places triangles (length lists.vertices))
     ++ flat_map (λ triangle. triangle_line (map (new_place triangles) triangle)) triangles
 

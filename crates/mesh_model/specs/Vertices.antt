@@ -1,5 +1,5 @@
 -- The vertices of a mesh, in their order, and the place of a vertex among them.
-use Rattle.std.specs.Prelude.{ℕ, ◌+◌, ◌^◌, not, ◌&&◌, ℤ, pos, ◌*ℤ◌, List, [], ◌∷◌, ◌++◌, map, filter, if◌then◌else◌}
+use Rattle.std.specs.Prelude.{ℕ, ◌+◌, ◌^◌, not, ◌&&◌, ℤ, pos, ◌*ℤ◌, List, [], ◌∷◌, ◌++◌, map, filter, if◌then◌else◌, slice_index_or}
 use Rattle.std.specs.Ordering.{int_eq}
 use Rattle.clip_regions.specs.declared.region.Region.{Region}
 use Rattle.clip_regions.specs.Regions.{contains, is_empty, empty_region, halve, cells}
@@ -50,3 +50,7 @@ abbrev pub place_of : List Vertex → ℤ → ℤ → ℕ
 place_of [] x z = 0
 place_of (vertex ∷ vertices) x z =
     if int_eq vertex.x x && int_eq vertex.z z then 0 else place_of vertices x z + 1
+
+-- the vertex at a place, and the origin where there is none
+abbrev pub vertex_of_place : List Vertex → ℕ → Vertex
+vertex_of_place vertices place = slice_index_or vertices place (record { x = pos 0; z = pos 0; height = pos 0 })

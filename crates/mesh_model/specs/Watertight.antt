@@ -1,13 +1,13 @@
 -- What it means that the mesh of some active regions has no gap: heights agree where levels meet, stitches are flat, triangles share their edges, and squares cover each place once.
-use Rattle.std.specs.Prelude.{◌≡◌, ℕ, ◌+◌, ◌-◌, ◌^◌, ◌<◌, Bool, not, if◌then◌else◌, ◌&&◌, ◌||◌, ◌==◌, IsTrue, ℤ, pos, ◌+ℤ◌, ◌*ℤ◌, int_le, int_lt, List, [], ◌∷◌, length, filter, count_by, flat_map, All, slice_index, slice_index_or}
+use Rattle.std.specs.Prelude.{◌≡◌, ℕ, ◌+◌, ◌-◌, ◌^◌, ◌<◌, Bool, not, if◌then◌else◌, ◌&&◌, ◌||◌, ◌==◌, IsTrue, ℤ, pos, ◌+ℤ◌, ◌*ℤ◌, int_le, int_lt, List, [], ◌∷◌, length, filter, count_by, flat_map, All, slice_index}
 use Rattle.std.specs.Ordering.{int_eq}
 use Rattle.clip_regions.specs.declared.region.Region.{Region}
 use Rattle.clip_regions.specs.Regions.{contains, empty_region, cells}
 use Rattle.terrain_model.specs.Terrain.{Terrain}
 use Rattle.mesh_model.specs.declared.shapes.Vertex.{Vertex}
-use Rattle.mesh_model.specs.Height.{border_distance, active_of, vertex_height}
-use Rattle.mesh_model.specs.Vertices.{hole, mesh_vertices}
-use Rattle.mesh_model.specs.Parts.{squares_between, all_stitch_parts}
+use Rattle.mesh_model.specs.Height.{border_distance, active_at, vertex_height}
+use Rattle.mesh_model.specs.Vertices.{hole, mesh_vertices, vertex_of_place}
+use Rattle.mesh_model.specs.Parts.{squares_in, all_stitch_parts}
 use Rattle.mesh_model.specs.Mesh.{mesh}
 
 -- the cell lies on the border of the region
@@ -18,13 +18,9 @@ is_on_border r i j = contains r i j && int_eq (border_distance r i j) (pos 0)
 abbrev pub HeightsAgree : Terrain → ℕ → List Region → Type 0
 HeightsAgree terrain k actives =
     (level : ℕ) (i j : ℤ) → level + 1 < length actives →
-    IsTrue (is_on_border (active_of actives level) (pos 2 *ℤ i) (pos 2 *ℤ j)) →
-    IsTrue (contains (active_of actives (level + 1)) i j) →
+    IsTrue (is_on_border (active_at actives level) (pos 2 *ℤ i) (pos 2 *ℤ j)) →
+    IsTrue (contains (active_at actives (level + 1)) i j) →
     vertex_height terrain k actives level (pos 2 *ℤ i) (pos 2 *ℤ j) ≡ vertex_height terrain k actives (level + 1) i j
-
--- the vertex at a place
-unfoldable pub vertex_of_place : List Vertex → ℕ → Vertex
-vertex_of_place vertices place = slice_index_or vertices place (record { x = pos 0; z = pos 0; height = pos 0 })
 
 -- m stands in the middle between p and q, in position and in height
 unfoldable pub is_middle : Vertex → Vertex → Vertex → Bool
@@ -60,7 +56,7 @@ scaled spacing r =
 unfoldable pub covered : List Region → Region
 covered actives =
     let coarsest = length actives - 1 in
-    scaled (pos (2 ^ coarsest)) (active_of actives coarsest)
+    scaled (pos (2 ^ coarsest)) (active_at actives coarsest)
 
 -- both vertices stand on one and the same side of the region; an empty region has no side
 unfoldable pub is_on_side : Region → Vertex → Vertex → Bool
@@ -89,8 +85,8 @@ EdgesClose terrain k actives =
 unfoldable pub ring_squares : Region → Region → List (ℤ × ℤ)
 ring_squares finer active =
     let gap = hole finer in
-    filter (λ square. not (contains (squares_between gap.x0 gap.x1 gap.y0 gap.y1) square.0 square.1))
-    (cells (squares_between active.x0 active.x1 active.y0 active.y1))
+    filter (λ square. not (contains (squares_in gap) square.0 square.1))
+    (cells (squares_in active))
 
 -- the unit square at column x and row z lies in this square of a level
 unfoldable pub lies_in : ℕ → ℤ → ℤ → ℤ × ℤ → Bool

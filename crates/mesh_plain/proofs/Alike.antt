@@ -10,7 +10,7 @@ use Rattle.mesh_model.specs.declared.shapes.Vertex.{Vertex}
 use Rattle.mesh_model.specs.declared.shapes.PartKind.{PartKind}
 use Rattle.mesh_model.specs.declared.shapes.PartKind.TheVariants.{Whole, North, West, East, South, StitchNorth, StitchEast, StitchSouth, StitchWest}
 use Rattle.mesh_model.specs.Vertices.{hole, mesh_vertices, listed_vertices, vertex_at}
-use Rattle.mesh_model.specs.Parts.{PartTriangles, corner_place, square_triangles, squares_between, square_part, square_parts, stitches_from, stitches_along, places_in_row, places_in_column, stitch_part, stitch_parts, square_parts_from, stitch_parts_from, all_stitch_parts, parts_of_regions}
+use Rattle.mesh_model.specs.Parts.{PartTriangles, corner_place, square_triangles, corners_at, squares_in, square_part, square_parts, stitches_from, stitches_along, places_in_row, places_in_column, stitch_part, stitch_parts, square_parts_from, stitch_parts_from, all_stitch_parts, parts_of_regions}
 use Rattle.mesh_model.specs.Mesh.{mesh, mesh_of_parts}
 use Rattle.mesh_plain.proofs.Borders.{no_stitch_parts, four_stitch_parts}
 use Rattle.mesh_plain.proofs.SquareParts.{no_square_parts, one_square_part, four_square_parts, parts_around}
@@ -52,21 +52,21 @@ four_alike p1 p2 p3 p4 q1 q2 q3 q4 a b c d =
 
 around_alike : (v w : List Vertex) (level : ℕ) (active gap : Region) → triangles_in (parts_around v level active gap) ≡ triangles_in (parts_around w level active gap)
 around_alike v w level active gap =
-    let north = λ (u : List Vertex). square_part u level North (squares_between active.x0 active.x1 active.y0 gap.y0) in
-    let west = λ (u : List Vertex). square_part u level West (squares_between active.x0 gap.x0 gap.y0 gap.y1) in
-    let east = λ (u : List Vertex). square_part u level East (squares_between gap.x1 active.x1 gap.y0 gap.y1) in
-    let south = λ (u : List Vertex). square_part u level South (squares_between active.x0 active.x1 gap.y1 active.y1) in
+    let north = λ (u : List Vertex). square_part u level North (squares_in (corners_at active.x0 active.y0 active.x1 gap.y0)) in
+    let west = λ (u : List Vertex). square_part u level West (squares_in (corners_at active.x0 gap.y0 gap.x0 gap.y1)) in
+    let east = λ (u : List Vertex). square_part u level East (squares_in (corners_at gap.x1 gap.y0 active.x1 gap.y1)) in
+    let south = λ (u : List Vertex). square_part u level South (squares_in (corners_at active.x0 gap.y1 active.x1 active.y1)) in
     four_alike (north v) (west v) (east v) (south v) (north w) (west w) (east w) (south w)
-    (in_squares v w level North (squares_between active.x0 active.x1 active.y0 gap.y0))
-    (in_squares v w level West (squares_between active.x0 gap.x0 gap.y0 gap.y1))
-    (in_squares v w level East (squares_between gap.x1 active.x1 gap.y0 gap.y1))
-    (in_squares v w level South (squares_between active.x0 active.x1 gap.y1 active.y1))
+    (in_squares v w level North (squares_in (corners_at active.x0 active.y0 active.x1 gap.y0)))
+    (in_squares v w level West (squares_in (corners_at active.x0 gap.y0 gap.x0 gap.y1)))
+    (in_squares v w level East (squares_in (corners_at gap.x1 gap.y0 active.x1 gap.y1)))
+    (in_squares v w level South (squares_in (corners_at active.x0 gap.y1 active.x1 active.y1)))
 
 square_parts_alike : (v w : List Vertex) (level : ℕ) (finer active : Region) (b c : Bool) → is_empty active ≡ b → is_empty (hole finer) ≡ c → triangles_in (square_parts v level finer active) ≡ triangles_in (square_parts w level finer active)
 square_parts_alike v w level finer active true c e f =
     ap triangles_in (no_square_parts v level finer active e ∙ sym (no_square_parts w level finer active e))
 square_parts_alike v w level finer active false true e f =
-    let squares = squares_between active.x0 active.x1 active.y0 active.y1 in
+    let squares = squares_in active in
     ap triangles_in (one_square_part v level finer active e f)
     ∙ alike (square_part v level Whole squares) (square_part w level Whole squares) [] [] (in_squares v w level Whole squares) refl
     ∙ sym (ap triangles_in (one_square_part w level finer active e f))

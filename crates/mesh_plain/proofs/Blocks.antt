@@ -6,7 +6,7 @@ use Rattle.std.proofs.lemmas.Int.{ints}
 use lib.Signed.{lt_z}
 use Rattle.clip_regions.specs.declared.region.Region.{Region}
 use Rattle.clip_regions.specs.Regions.{is_empty, columns, rows, cells, numbers_from, IsWithin}
-use Rattle.mesh_model.specs.Parts.{squares_between}
+use Rattle.mesh_model.specs.Parts.{squares_in}
 use Rattle.mesh_plain.specs.Blocks.{HasPlacedCorners}
 use Rattle.mesh_plain_heights.specs.Placed.{IsPlacedAt, ArePlaced}
 use Rattle.clip_regions.proofs.Gaps.{gap_none}
@@ -24,8 +24,8 @@ corners_within level r h = record {
   y1_high = h.south.small_high;
 }
 
-pub squares_placed : (level : ℕ) (r : Region) → HasPlacedCorners level r → ArePlaced level (squares_between r.x0 r.x1 r.y0 r.y1)
-unfolding squares_between
+pub squares_placed : (level : ℕ) (r : Region) → HasPlacedCorners level r → ArePlaced level (squares_in r)
+unfolding squares_in
 squares_placed level r h =
     let east : r.x1 ≡ r.x1 -ℤ pos 1 +ℤ pos 1 = omega (arith, ints) in
     let south : r.y1 ≡ r.y1 -ℤ pos 1 +ℤ pos 1 = omega (arith, ints) in

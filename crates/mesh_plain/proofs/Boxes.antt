@@ -4,14 +4,14 @@ use Rattle.std.proofs.lemmas.List.{at_drop_more, at_drop_all}
 use Rattle.mesh_model.specs.declared.shapes.Vertex.{Vertex}
 use Rattle.mesh_model.specs.declared.shapes.Bounds.{Bounds}
 use Rattle.mesh_model.specs.Mesh.{least, greatest, vertices_of, bounds_of}
-use Rattle.mesh_plain.specs.Corners.{vertex_named}
+use Rattle.mesh_model.specs.Vertices.{vertex_of_place}
 
-pub corners_more : (vertices : List Vertex) (triangles : List (List ℕ)) (i : ℕ) (d : List ℕ) (before after whole : List Vertex) → i < length triangles → after ≡ before ++ map (vertex_named vertices) (get_or triangles i d) → before ++ vertices_of vertices (drop i triangles) ≡ whole → after ++ vertices_of vertices (drop (i + 1) triangles) ≡ whole
+pub corners_more : (vertices : List Vertex) (triangles : List (List ℕ)) (i : ℕ) (d : List ℕ) (before after whole : List Vertex) → i < length triangles → after ≡ before ++ map (vertex_of_place vertices) (get_or triangles i d) → before ++ vertices_of vertices (drop i triangles) ≡ whole → after ++ vertices_of vertices (drop (i + 1) triangles) ≡ whole
 unfolding vertices_of
 corners_more vertices triangles i d before after whole here added made =
     let rest = vertices_of vertices (drop (i + 1) triangles) in
     ap (λ (now : List Vertex). now ++ rest) added
-    ∙ append_assoc before (map (vertex_named vertices) (get_or triangles i d)) rest
+    ∙ append_assoc before (map (vertex_of_place vertices) (get_or triangles i d)) rest
     ∙ ap (λ (later : List Vertex). before ++ later) (sym (at_drop_more (vertices_of vertices) triangles i d here))
     ∙ made
 

@@ -6,7 +6,7 @@ use Rattle.std.proofs.lemmas.List.Elements.{All-nil, All-cons, All-head, All-tai
 use Rattle.std.proofs.lemmas.List.FromFn.{get_or-range_with_len, length-range_with_len}
 use Rattle.clip_regions.specs.declared.region.Region.{Region}
 use Rattle.clip_regions.specs.Regions.{contains, columns, rows, cells, numbers_from, empty_region, IsWithin}
-use Rattle.mesh_model.specs.Height.{active_of}
+use Rattle.mesh_model.specs.Height.{active_at}
 use Rattle.mesh_model.specs.Vertices.{LevelCell, hole, cells_outside, listed_from, listed_vertices}
 use Rattle.mesh_plain_heights.specs.declared.places.Cell.{Cell}
 use Rattle.mesh_plain_heights.specs.Placed.{IsPlacedAt}
@@ -112,7 +112,7 @@ all_before P f (x ∷ xs) h =
     All-cons (λ y. P (f y)) x xs (All-head P (f x) (map f xs) h) (all_before P f xs (All-tail P (f x) (map f xs) h))
 
 drawn_is : (actives : List Region) (cell : Cell) → IsListedFrom 0 actives (level_cell cell) → IsDrawnCell actives cell
-unfolding active_of
+unfolding active_at
 drawn_is actives cell h =
     let same : h.offset ≡ cell.level = omega (arith, h.level_is) in
     record {

@@ -3,4 +3,3 @@ pub mod Strips
 pub mod Rings
 pub mod Frames
 pub mod Blocks
-pub mod Corners

@@ -2,7 +2,7 @@
 
 ghost use Rattle.std.specs.Prelude.{◌≡◌, ◌++◌, IfOk, OnOk, map, flat_map, pos, get_or};
 ghost use Rattle.mesh_model.specs.Mesh.{bounds_of, greatest, least, vertices_of};
-ghost use Rattle.mesh_plain.specs.Corners.{vertex_named};
+ghost use Rattle.mesh_model.specs.Vertices.{vertex_of_place};
 
 use mesh_model::{Bounds, Vertex};
 use obj_frames::NoMemory;
@@ -39,7 +39,7 @@ pub fn greatest(numbers: &[i32]) -> i32
 
 // The vertex with this place, or (0, 0, 0) where there is none.
 fn vertex_named(vertices: &[Vertex], place: u32) -> Vertex
-    ensures { result ≡ vertex_named vertices.now place }
+    ensures { result ≡ vertex_of_place vertices.now place }
 {
     if (place as usize) < vertices.len() {
         vertices[place as usize]
@@ -54,7 +54,7 @@ fn vertex_named(vertices: &[Vertex], place: u32) -> Vertex
 
 // Adds the vertices with these places.
 fn add_named(found: &mut Vec<Vertex>, vertices: &[Vertex], places: &[u32]) -> Result<(), AllocError>
-    ensures { OnOk result (found.new.items ≡ found.old.items ++ map (vertex_named vertices.now) places.now) }
+    ensures { OnOk result (found.new.items ≡ found.old.items ++ map (vertex_of_place vertices.now) places.now) }
 {
     for place in places {
         found.push(vertex_named(vertices, *place))?;

@@ -3,7 +3,7 @@
 ghost use Rattle.std.specs.Prelude.{◌≡◌, ◌+◌, ◌^◌, ◌<◌, ◌++◌, ◌∷◌, [], IfOk, OnOk, flat_map, length, false};
 ghost use Rattle.clip_regions.specs.Regions.{IsWithin, is_empty, cells};
 ghost use Rattle.mesh_model.specs.Vertices.{hole};
-ghost use Rattle.mesh_model.specs.Parts.{squares_between, square_part, square_parts, square_triangles};
+ghost use Rattle.mesh_model.specs.Parts.{corners_at, squares_in, square_part, square_parts, square_triangles};
 ghost use Rattle.mesh_model.specs.declared.shapes.PartKind.TheVariants.{Whole, North, West, East, South};
 ghost use Rattle.mesh_plain.specs.Blocks.{HasPlacedCorners};
 ghost use Rattle.mesh_plain_heights.specs.Placed.{ArePlaced};
@@ -20,7 +20,7 @@ use std::alloc::Global;
 // The north-west corners of the squares of a block.
 fn squares_of(block: &Region) -> Region
     requires { IsWithin (2 ^ 24) block.now }
-    ensures { result ≡ squares_between block.now.x0 block.now.x1 block.now.y0 block.now.y1 }
+    ensures { result ≡ squares_in block.now }
 {
     Region {
         x0: block.x0,
@@ -62,7 +62,7 @@ fn block_part(
     requires level { level < 12 }
     requires corners { HasPlacedCorners level block.now }
     ensures { IfOk result (λ part. part ≡
-        square_part vertices.now level kind (squares_between block.now.x0 block.now.x1 block.now.y0 block.now.y1)) }
+        square_part vertices.now level kind (squares_in block.now)) }
 {
     let squares = squares_of(block);
     let triangles = triangles_of(alloc, vertices, level, &squares)?;
@@ -87,7 +87,7 @@ fn add_block(
     requires corners { HasPlacedCorners level block.now }
     ensures { OnOk result (parts.new.items ≡ parts.old.items ++
         square_part vertices.now level kind
-        (squares_between block.now.x0 block.now.x1 block.now.y0 block.now.y1) ∷ []) }
+        (squares_in block.now) ∷ []) }
 {
     let part = block_part(alloc, vertices, level, kind, block)?;
     push_part(parts, part)?;
@@ -156,10 +156,10 @@ fn add_around(
     requires active { HasPlacedCorners level active.now }
     requires gap { HasPlacedCorners level gap.now }
     ensures { OnOk result (parts.new.items ≡ parts.old.items ++
-        square_part vertices.now level North (squares_between active.now.x0 active.now.x1 active.now.y0 gap.now.y0)
-        ∷ square_part vertices.now level West (squares_between active.now.x0 gap.now.x0 gap.now.y0 gap.now.y1)
-        ∷ square_part vertices.now level East (squares_between gap.now.x1 active.now.x1 gap.now.y0 gap.now.y1)
-        ∷ square_part vertices.now level South (squares_between active.now.x0 active.now.x1 gap.now.y1 active.now.y1)
+        square_part vertices.now level North (squares_in (corners_at active.now.x0 active.now.y0 active.now.x1 gap.now.y0))
+        ∷ square_part vertices.now level West (squares_in (corners_at active.now.x0 gap.now.y0 gap.now.x0 gap.now.y1))
+        ∷ square_part vertices.now level East (squares_in (corners_at gap.now.x1 gap.now.y0 active.now.x1 gap.now.y1))
+        ∷ square_part vertices.now level South (squares_in (corners_at active.now.x0 gap.now.y1 active.now.x1 active.now.y1))
         ∷ []) }
 {
     let north = north_of(active, gap);

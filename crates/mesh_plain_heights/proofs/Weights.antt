@@ -4,7 +4,7 @@ use Rattle.std.proofs.lemmas.Int.{ints}
 use Rattle.clip_regions.specs.declared.region.Region.{Region}
 use Rattle.plan_model.specs.Window.{blend_width}
 use Rattle.terrain_model.specs.Terrain.{Terrain, level_height}
-use Rattle.mesh_model.specs.Height.{blend_share, blended_height, active_of, lower_end, upper_end, vertex_height}
+use Rattle.mesh_model.specs.Height.{blend_share, blended_height, active_at, lower_end, upper_end, vertex_height}
 use Rattle.mesh_plain_heights.specs.Drawn.{own_weight, coarser_weight, blended_by}
 use Rattle.mesh_model.proofs.Weights.{by_width, IsWeight, scaled_fits, own_few, coarser_few}
 
@@ -35,7 +35,7 @@ pub blend_is : (k : ℕ) (r : Region) (i j own a b : ℤ) → blended_by k (blen
 unfolding blended_height blended_by own_weight coarser_weight
 blend_is k r i j own a b = refl
 
-pub vertex_is : (terrain : Terrain) (k : ℕ) (actives : List Region) (level : ℕ) (i j : ℤ) (coarsest : Bool) → (level + 1 == length actives) ≡ coarsest → blended_height k coarsest (active_of actives level) i j (level_height terrain level i j) (level_height terrain (level + 1) (lower_end i) (lower_end j)) (level_height terrain (level + 1) (upper_end i) (upper_end j)) ≡ vertex_height terrain k actives level i j
+pub vertex_is : (terrain : Terrain) (k : ℕ) (actives : List Region) (level : ℕ) (i j : ℤ) (coarsest : Bool) → (level + 1 == length actives) ≡ coarsest → blended_height k coarsest (active_at actives level) i j (level_height terrain level i j) (level_height terrain (level + 1) (lower_end i) (lower_end j)) (level_height terrain (level + 1) (upper_end i) (upper_end j)) ≡ vertex_height terrain k actives level i j
 unfolding vertex_height
 vertex_is terrain k actives level i j coarsest e =
-    ap (λ (b : Bool). blended_height k b (active_of actives level) i j (level_height terrain level i j) (level_height terrain (level + 1) (lower_end i) (lower_end j)) (level_height terrain (level + 1) (upper_end i) (upper_end j))) (sym e)
+    ap (λ (b : Bool). blended_height k b (active_at actives level) i j (level_height terrain level i j) (level_height terrain (level + 1) (lower_end i) (lower_end j)) (level_height terrain (level + 1) (upper_end i) (upper_end j))) (sym e)

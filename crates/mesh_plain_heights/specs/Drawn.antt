@@ -3,15 +3,15 @@ use Rattle.std.specs.Prelude.{◌≡◌, ℕ, ◌/◌, ◌^◌, ◌<◌, true, �
 use Rattle.clip_regions.specs.declared.region.Region.{Region}
 use Rattle.clip_regions.specs.Regions.{contains, IsWithin}
 use Rattle.plan_model.specs.Window.{blend_width}
-use Rattle.mesh_model.specs.Height.{active_of}
+use Rattle.mesh_model.specs.Height.{active_at}
 use Rattle.mesh_plain_heights.specs.declared.places.Cell.{Cell}
 use Rattle.mesh_plain_heights.specs.Placed.{IsPlacedAt}
 
 -- a cell of the active region of its level, near the mosaic's corner
 pub record IsDrawnCell (actives : List Region) (cell : Cell) : Type 0 where
   pub listed : cell.level < length actives
-  pub near : IsWithin (2 ^ 24) (active_of actives cell.level)
-  pub inside : contains (active_of actives cell.level) cell.i cell.j ≡ true
+  pub near : IsWithin (2 ^ 24) (active_at actives cell.level)
+  pub inside : contains (active_at actives cell.level) cell.i cell.j ≡ true
   pub column : IsPlacedAt cell.level cell.i
   pub row : IsPlacedAt cell.level cell.j
 

@@ -5,7 +5,7 @@ ghost use Rattle.clip_regions.specs.Regions.{IsWithin, contains};
 ghost use Rattle.plan_model.specs.Limits.{IsSize};
 ghost use Rattle.plan_model.specs.Window.{blend_width};
 ghost use Rattle.terrain_model.specs.Terrain.{level_height};
-ghost use Rattle.mesh_model.specs.Height.{active_of, blended_height, blend_share, border_distance, lower_end, upper_end, vertex_height};
+ghost use Rattle.mesh_model.specs.Height.{active_at, blended_height, blend_share, border_distance, lower_end, upper_end, vertex_height};
 ghost use Rattle.mesh_plain_heights.specs.Placed.{IsNearCell, IsPlacedAt};
 ghost use Rattle.mesh_plain_heights.specs.Drawn.{IsDrawnCell, blended_by, coarser_weight, own_weight};
 
@@ -200,9 +200,9 @@ fn finer_height(terrain: &Grid, k: u8, active: &Region, cell: &Cell) -> i32
 }
 
 // The active region of a level.
-fn active_of(actives: &[Region], level: u8) -> Region
+fn active_at(actives: &[Region], level: u8) -> Region
     requires { level < length actives.now }
-    ensures { result ≡ active_of actives.now level }
+    ensures { result ≡ active_at actives.now level }
 {
     actives[usize::from(level)]
 }
@@ -218,6 +218,6 @@ pub fn vertex_height(terrain: &Grid, k: u8, actives: &[Region], cell: &Cell) -> 
     if usize::from(cell.level) + 1 == actives.len() {
         coarsest_height(terrain, cell)
     } else {
-        finer_height(terrain, k, &active_of(actives, cell.level), cell)
+        finer_height(terrain, k, &active_at(actives, cell.level), cell)
     }
 }

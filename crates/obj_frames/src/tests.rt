@@ -133,24 +133,6 @@ fn prints_and_gives_back_a_triangle(rt: HostRuntime) -> Result<(), Fail> {
     Ok(())
 }
 
-// A part of one triangle, in a box round all four vertices.
-fn part(first: u32) -> Part {
-    Part {
-        level: 0,
-        kind: PartKind::Whole,
-        first,
-        count: 1,
-        bounds: Bounds {
-            x0: 0,
-            x1: 2,
-            z0: 0,
-            z1: 2,
-            low: -1,
-            high: 3005,
-        },
-    }
-}
-
 #[test]
 fn prints_kept_parts(rt: HostRuntime) -> Result<(), Fail> {
     let vertices = vec![in rt.alloc();
@@ -175,8 +157,23 @@ fn prints_kept_parts(rt: HostRuntime) -> Result<(), Fail> {
             height: -1
         },
     ]?;
-    let triangles = vec![in rt.alloc(); [0u32, 2, 3], [0, 3, 1]]?;
-    let parts = vec![in rt.alloc(); part(0), part(1)]?;
+    let bounds = Bounds {
+        x0: 0,
+        x1: 2,
+        z0: 0,
+        z1: 2,
+        low: -1,
+        high: 3005,
+    };
+    let part = Part {
+        level: 0,
+        kind: PartKind::Whole,
+        first: 0,
+        count: 1,
+        bounds,
+    };
+    let triangles = vec![in rt.alloc(); [0u32, 3, 2]]?;
+    let parts = vec![in rt.alloc(); part]?;
     let mesh = Mesh::new(vertices, triangles, parts);
     let header = Header {
         number: 7,
@@ -184,18 +181,18 @@ fn prints_kept_parts(rt: HostRuntime) -> Result<(), Fail> {
         y: -1,
         actives: actives(&NOTHING, 4, 0),
     };
-    let text = seen_text(rt.alloc(), &mesh, &header, &[false, true])?;
+    let text = seen_text(rt.alloc(), &mesh, &header, &[true])?;
     let wanted =
-        b"# clipmap frame 7\n# viewer 1 -1\n# level 0 empty\n# kept 1 of 2\nv 0 93.90625 0\nv 2 11.50000 0\nv 2 -0.03125 2\nf 1 3 2\n";
+        b"# clipmap frame 7\n# viewer 1 -1\n# level 0 empty\n# kept 1 of 1\nv 0 93.90625 0\nv 0 0.00000 2\nv 2 -0.03125 2\nf 1 3 2\n";
     assert_eq!(rt; text.as_slice(), wanted.as_slice());
-    let nothing = cull(rt.alloc(), &mesh, &header, &[false, false])?;
-    let wanted = b"# clipmap frame 7\n# viewer 1 -1\n# level 0 empty\n# kept 0 of 2\n";
+    let all = cull(rt.alloc(), &mesh, &header, &[true])?;
+    assert_eq!(rt; (all.parts, all.vertices, all.triangles), (1, 3, 1));
+    let nothing = cull(rt.alloc(), &mesh, &header, &[false])?;
+    let wanted = b"# clipmap frame 7\n# viewer 1 -1\n# level 0 empty\n# kept 0 of 1\n";
     assert_eq!(rt; nothing.text.as_slice(), wanted.as_slice());
     assert_eq!(rt;
         (nothing.parts, nothing.vertices, nothing.triangles),
         (0, 0, 0)
     );
-    let all = cull(rt.alloc(), &mesh, &header, &[true, true])?;
-    assert_eq!(rt; (all.parts, all.vertices, all.triangles), (2, 4, 2));
     Ok(())
 }

@@ -5,7 +5,7 @@ use Rattle.std.proofs.lemmas.Bool.{true≢false}
 use Rattle.clip_regions.specs.declared.region.Region.{Region}
 use Rattle.clip_regions.specs.Regions.{is_empty, IsWithin}
 use Rattle.mesh_model.specs.declared.shapes.PartKind.TheVariants.{Whole}
-use Rattle.mesh_model.specs.Parts.{PartTriangles, squares_between}
+use Rattle.mesh_model.specs.Parts.{PartTriangles, squares_in}
 use Rattle.mesh_laws.specs.declared.ring.Ring.{Ring}
 use Rattle.mesh_laws.specs.Rings.{ring_parts}
 use Rattle.mesh_laws.specs.Conditions.{IsCut, IsRing}
@@ -14,8 +14,8 @@ use Rattle.ring_mesh.specs.Added.{HasBlock, triangles_of, north_block, west_bloc
 use Rattle.ring_mesh.proofs.Added.{few_front, few_back}
 use Rattle.clip_regions.proofs.Cells.{empty_is_empty}
 
-pub block_squares : (r block : Region) → HasBlock r block → HasSquares r (squares_between block.x0 block.x1 block.y0 block.y1)
-unfolding squares_between
+pub block_squares : (r block : Region) → HasBlock r block → HasSquares r (squares_in block)
+unfolding squares_in
 block_squares r block h =
     let p = h.placed in
     let a = p.x0_low in

@@ -7,7 +7,8 @@ use Rattle.std.proofs.lemmas.List.{at_drop_more, at_drop_all}
 use Rattle.mesh_model.specs.declared.shapes.Vertex.{Vertex}
 use Rattle.mesh_model.specs.declared.shapes.Bounds.{Bounds}
 use Rattle.mesh_model.specs.Mesh.{vertices_of, bounds_of}
-use Rattle.ring_mesh.specs.Boxes.{vertex_named, point_box, wider, widest, first_box}
+use Rattle.mesh_model.specs.Vertices.{vertex_of_place}
+use Rattle.ring_mesh.specs.Boxes.{point_box, wider, widest, first_box}
 
 widest_append : (box : Bounds) (xs ys : List Vertex) → widest box (xs ++ ys) ≡ widest (widest box xs) ys
 widest_append box [] ys = refl
@@ -40,13 +41,13 @@ bounds_are (v ∷ vs) = ap (λ box. widest box vs) (point_wider v) ∙ widest_is
 
 -- the vertices of one triangle more
 pub box_more : (vertices : List Vertex) (triangles : List (List ℕ)) (i : ℕ) (d : List ℕ) (box after whole : Bounds) → i < length triangles →
-    after ≡ widest box (map (vertex_named vertices) (get_or triangles i d)) → widest box (vertices_of vertices (drop i triangles)) ≡ whole →
+    after ≡ widest box (map (vertex_of_place vertices) (get_or triangles i d)) → widest box (vertices_of vertices (drop i triangles)) ≡ whole →
     widest after (vertices_of vertices (drop (i + 1) triangles)) ≡ whole
 unfolding vertices_of
 box_more vertices triangles i d box after whole here added made =
     let rest = vertices_of vertices (drop (i + 1) triangles) in
     ap (λ (b : Bounds). widest b rest) added
-    ∙ sym (widest_append box (map (vertex_named vertices) (get_or triangles i d)) rest)
+    ∙ sym (widest_append box (map (vertex_of_place vertices) (get_or triangles i d)) rest)
     ∙ ap (λ (list : List Vertex). widest box list) (sym (at_drop_more (vertices_of vertices) triangles i d here))
     ∙ made
 
@@ -61,7 +62,7 @@ no_box vertices [] none = refl
 no_box vertices (t ∷ ts) none = absurd (omega arith)
 
 pub some_box : (vertices : List Vertex) (triangles : List (List ℕ)) (d : List ℕ) → 0 < length triangles → 0 < length (get_or triangles 0 d) →
-    point_box (vertex_named vertices (get_or (get_or triangles 0 d) 0 0)) ≡ first_box (vertices_of vertices triangles)
+    point_box (vertex_of_place vertices (get_or (get_or triangles 0 d) 0 0)) ≡ first_box (vertices_of vertices triangles)
 unfolding vertices_of
 some_box vertices [] d some corner = absurd (omega arith)
 some_box vertices ([] ∷ ts) d some corner = absurd (omega arith)

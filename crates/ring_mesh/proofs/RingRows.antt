@@ -7,7 +7,7 @@ use Rattle.clip_regions.specs.declared.region.Region.{Region}
 use Rattle.clip_regions.specs.Regions.{empty_region, rows}
 use Rattle.terrain_model.specs.Terrain.{Terrain}
 use Rattle.mesh_model.specs.declared.shapes.Vertex.{Vertex}
-use Rattle.mesh_model.specs.Height.{active_of}
+use Rattle.mesh_model.specs.Height.{active_at}
 use Rattle.mesh_model.specs.Vertices.{LevelCell, cells_outside, listed_from, vertex_at, mesh_vertices, listed_vertices}
 use Rattle.mesh_laws.specs.declared.ring.Ring.{Ring}
 use Rattle.mesh_laws.specs.Rings.{no_ring, next_ring, ring_row}
@@ -46,9 +46,9 @@ ring_listed terrain k actives level finer active law =
 -- this level's ring, and then the others
 split : (terrain : Terrain) (k : ℕ) (actives : List Region) (level : ℕ) (finer : Ring) → level < length actives → RingRows →
     map (vertex_at terrain k actives) (listed_from level finer.active (drop level actives))
-    ≡ vertices_at terrain k actives level (ring_cells (next_ring finer (active_of actives level)))
-    ++ map (vertex_at terrain k actives) (listed_from (level + 1) (active_of actives level) (drop (level + 1) actives))
-unfolding active_of
+    ≡ vertices_at terrain k actives level (ring_cells (next_ring finer (active_at actives level)))
+    ++ map (vertex_at terrain k actives) (listed_from (level + 1) (active_at actives level) (drop (level + 1) actives))
+unfolding active_at
 split terrain k actives level finer low law =
     let next : suc level ≡ level + 1 = omega arith in
     let active = get_or actives level empty_region in
@@ -59,12 +59,12 @@ split terrain k actives level finer low law =
     ∙ ap (λ xs. xs ++ map (vertex_at terrain k actives) (listed_from (level + 1) active (drop (level + 1) actives))) (sym (ring_listed terrain k actives level finer active law))
 
 pub next_listed : (terrain : Terrain) (k : ℕ) (actives : List Region) (level : ℕ) (finer : Ring) (now next : List Vertex) → level < length actives → RingRows →
-    IsListed terrain k actives level finer now → next ≡ now ++ vertices_at terrain k actives level (ring_cells (next_ring finer (active_of actives level))) →
-    IsBefore actives (level + 1) (next_ring finer (active_of actives level)) → IsListed terrain k actives (level + 1) (next_ring finer (active_of actives level)) next
+    IsListed terrain k actives level finer now → next ≡ now ++ vertices_at terrain k actives level (ring_cells (next_ring finer (active_at actives level))) →
+    IsBefore actives (level + 1) (next_ring finer (active_at actives level)) → IsListed terrain k actives (level + 1) (next_ring finer (active_at actives level)) next
 unfolding next_ring
 next_listed terrain k actives level finer now next low law listed added before =
-    let own = vertices_at terrain k actives level (ring_cells (next_ring finer (active_of actives level))) in
-    let rest = map (vertex_at terrain k actives) (listed_from (level + 1) (active_of actives level) (drop (level + 1) actives)) in
+    let own = vertices_at terrain k actives level (ring_cells (next_ring finer (active_at actives level))) in
+    let rest = map (vertex_at terrain k actives) (listed_from (level + 1) (active_at actives level) (drop (level + 1) actives)) in
     record {
       before = before;
       left = ap (λ xs. xs ++ rest) added ∙ append_assoc now own rest ∙ ap (λ xs. now ++ xs) (sym (split terrain k actives level finer low law)) ∙ listed.left;

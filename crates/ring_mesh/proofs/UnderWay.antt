@@ -6,7 +6,7 @@ use Rattle.clip_regions.specs.declared.region.Region.{Region}
 use Rattle.clip_regions.specs.Regions.{empty_region}
 use Rattle.mesh_model.specs.declared.shapes.Vertex.{Vertex}
 use Rattle.mesh_model.specs.declared.shapes.Part.{Part}
-use Rattle.mesh_model.specs.Height.{active_of}
+use Rattle.mesh_model.specs.Height.{active_at}
 use Rattle.mesh_model.specs.Parts.{PartTriangles}
 use Rattle.mesh_model.specs.Mesh.{mesh_of_parts, parts_from}
 use Rattle.mesh_laws.specs.declared.ring.Ring.{Ring}
@@ -21,19 +21,19 @@ start vertices actives before = record { before = before; left = record { triang
 
 -- the parts of this level's ring, and then the others
 split : (actives : List Region) (level : ℕ) (finer : Ring) → level < length actives →
-    ring_parts_from level finer (drop level actives) ≡ ring_parts level finer (next_ring finer (active_of actives level)) ++ ring_parts_from (level + 1) (next_ring finer (active_of actives level)) (drop (level + 1) actives)
-unfolding active_of
+    ring_parts_from level finer (drop level actives) ≡ ring_parts level finer (next_ring finer (active_at actives level)) ++ ring_parts_from (level + 1) (next_ring finer (active_at actives level)) (drop (level + 1) actives)
+unfolding active_at
 split actives level finer low =
     let next : suc level ≡ level + 1 = omega arith in
     let cons : drop level actives ≡ get_or actives level empty_region ∷ drop (level + 1) actives = drop-cons actives level empty_region low ∙ (λ t. get_or actives level empty_region ∷ drop (next t) actives) in
     ap (ring_parts_from level finer) cons
 
 pub step : (vertices : List Vertex) (actives : List Region) (level : ℕ) (finer : Ring) (t t1 : List (List ℕ)) (p p1 : List Part) → level < length actives →
-    IsUnderWay vertices actives level finer t p → Adds vertices (ring_parts level finer (next_ring finer (active_of actives level))) t p t1 p1 →
-    IsBefore actives (level + 1) (next_ring finer (active_of actives level)) → IsUnderWay vertices actives (level + 1) (next_ring finer (active_of actives level)) t1 p1
+    IsUnderWay vertices actives level finer t p → Adds vertices (ring_parts level finer (next_ring finer (active_at actives level))) t p t1 p1 →
+    IsBefore actives (level + 1) (next_ring finer (active_at actives level)) → IsUnderWay vertices actives (level + 1) (next_ring finer (active_at actives level)) t1 p1
 step vertices actives level finer t t1 p p1 low way added before =
     let whole = mesh_of_parts vertices (ring_parts_from 0 no_ring actives) in
-    let ring = next_ring finer (active_of actives level) in
+    let ring = next_ring finer (active_at actives level) in
     record {
       before = before;
       left = adds_rest vertices (ring_parts level finer ring) (ring_parts_from (level + 1) ring (drop (level + 1) actives)) t t1 whole.triangles p p1 whole.parts
@@ -41,10 +41,10 @@ step vertices actives level finer t t1 p p1 low way added before =
     }
 
 pub few : (vertices : List Vertex) (actives : List Region) (level : ℕ) (finer : Ring) (t : List (List ℕ)) (p : List Part) (m : ℕ) → level < length actives → IsUnderWay vertices actives level finer t p →
-    length (triangles_of (ring_parts_from 0 no_ring actives)) < m → length t + length (triangles_of (ring_parts level finer (next_ring finer (active_of actives level)))) < m
+    length (triangles_of (ring_parts_from 0 no_ring actives)) < m → length t + length (triangles_of (ring_parts level finer (next_ring finer (active_at actives level)))) < m
 unfolding mesh_of_parts triangles_of
 few vertices actives level finer t p m low way most =
-    let ring = next_ring finer (active_of actives level) in
+    let ring = next_ring finer (active_at actives level) in
     let ps = ring_parts level finer ring in
     let qs = ring_parts_from (level + 1) ring (drop (level + 1) actives) in
     let all = ap length (way.left.triangles_are ∙ ap (λ x. t ++ triangles_of x) (split actives level finer low)) in

@@ -6,7 +6,7 @@ use Rattle.mesh_model.specs.declared.shapes.PartKind.{PartKind}
 use Rattle.mesh_model.specs.declared.shapes.PartKind.TheVariants.{North, West, East, South}
 use Rattle.mesh_model.specs.declared.shapes.Vertex.{Vertex}
 use Rattle.mesh_model.specs.declared.shapes.Part.{Part}
-use Rattle.mesh_model.specs.Parts.{PartTriangles, squares_between}
+use Rattle.mesh_model.specs.Parts.{PartTriangles, squares_in}
 use Rattle.mesh_model.specs.Mesh.{parts_from, mesh_of_parts}
 use Rattle.mesh_laws.specs.declared.ring.Ring.{Ring}
 use Rattle.mesh_laws.specs.Rings.{no_ring, ring_part, ring_parts_from}
@@ -46,7 +46,7 @@ south_block active gap = record { x0 = active.x0; y0 = gap.y1; x1 = active.x1; y
 -- the part of the squares of a block
 abbrev pub block_part : Ring → Ring → ℕ → PartKind → Region → PartTriangles
 block_part finer ring level kind block =
-    ring_part finer ring level kind (squares_between block.x0 block.x1 block.y0 block.y1)
+    ring_part finer ring level kind (squares_in block)
 
 -- the four parts round the hole of a ring
 abbrev pub parts_around : ℕ → Ring → Ring → List PartTriangles

@@ -1,12 +1,8 @@
 -- Boxes round vertices, one vertex after another.
-use Rattle.std.specs.Prelude.{ℕ, pos, List, [], ◌∷◌, get_or}
+use Rattle.std.specs.Prelude.{pos, List, [], ◌∷◌}
 use Rattle.std.specs.Int.{int_min, int_max}
 use Rattle.mesh_model.specs.declared.shapes.Vertex.{Vertex}
 use Rattle.mesh_model.specs.declared.shapes.Bounds.{Bounds}
-
--- the vertex with this place, or (0, 0, 0) where there is none
-abbrev pub vertex_named : List Vertex → ℕ → Vertex
-vertex_named vertices place = get_or vertices place (record { x = pos 0; z = pos 0; height = pos 0 })
 
 -- the box of one vertex
 abbrev pub point_box : Vertex → Bounds

@@ -5,7 +5,7 @@ use Rattle.clip_regions.specs.Regions.{rows, numbers_from, IsWithin}
 use Rattle.plan_model.specs.Limits.{IsSize}
 use Rattle.terrain_model.specs.Terrain.{Terrain, level_height}
 use Rattle.mesh_model.specs.declared.shapes.Vertex.{Vertex}
-use Rattle.mesh_model.specs.Height.{active_of, lower_end, upper_end, blended_height}
+use Rattle.mesh_model.specs.Height.{active_at, lower_end, upper_end, blended_height}
 use Rattle.mesh_model.specs.Vertices.{vertex_at, listed_from, mesh_vertices}
 use Rattle.active_region.specs.Active.{AreActive}
 use Rattle.mesh_laws.specs.declared.ring.Ring.{Ring}
@@ -22,7 +22,7 @@ pub record HasHeights (k : ℕ) (actives : List Region) (level : ℕ) (regions :
 -- the height of a vertex of a level that isn't the coarsest, whose own height is given
 unfoldable pub coarser_mean : Terrain → ℕ → List Region → ℕ → ℤ → ℤ → ℤ → ℤ
 coarser_mean terrain k actives level i j own =
-    blended_height k false (active_of actives level) i j own
+    blended_height k false (active_at actives level) i j own
     (level_height terrain (level + 1) (lower_end i) (lower_end j))
     (level_height terrain (level + 1) (upper_end i) (upper_end j))
 

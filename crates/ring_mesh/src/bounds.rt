@@ -2,13 +2,14 @@
 
 ghost use Rattle.std.specs.Prelude.{◌≡◌, map, pos, get_or};
 ghost use Rattle.mesh_model.specs.Mesh.{vertices_of, bounds_of};
-ghost use Rattle.ring_mesh.specs.Boxes.{point_box, wider, widest, first_box, vertex_named};
+ghost use Rattle.mesh_model.specs.Vertices.{vertex_of_place};
+ghost use Rattle.ring_mesh.specs.Boxes.{point_box, wider, widest, first_box};
 
 use obj_frames::{Bounds, Vertex};
 
 // The vertex with this place, or (0, 0, 0) where there is none.
 fn vertex_named(vertices: &[Vertex], place: u32) -> Vertex
-    ensures { result ≡ vertex_named vertices.now place }
+    ensures { result ≡ vertex_of_place vertices.now place }
 {
     if (place as usize) < vertices.len() {
         vertices[place as usize]
@@ -51,7 +52,7 @@ fn widened(bounds: Bounds, vertex: &Vertex) -> Bounds
 
 // The least box that holds a box and the vertices with these places.
 fn widened_by(mut bounds: Bounds, vertices: &[Vertex], places: &[u32]) -> Bounds
-    ensures { result ≡ widest bounds (map (vertex_named vertices.now) places.now) }
+    ensures { result ≡ widest bounds (map (vertex_of_place vertices.now) places.now) }
 {
     for place in places {
         bounds = widened(bounds, &vertex_named(vertices, *place));

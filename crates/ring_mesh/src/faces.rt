@@ -3,7 +3,7 @@
 ghost use Rattle.std.specs.Prelude.{◌≡◌, ◌+◌, ◌^◌, ◌<◌, ◌≤◌, ◌++◌, ◌∷◌, [], false, OnOk, IfOk, length, drop, pos, neg_ℤ, ◌-ℤ◌, ◌≤ℤ◌};
 ghost use Rattle.clip_regions.specs.Regions.{is_empty, IsWithin};
 ghost use Rattle.mesh_model.specs.declared.shapes.PartKind.TheVariants.{Whole, North, West, East, South};
-ghost use Rattle.mesh_model.specs.Parts.{squares_between};
+ghost use Rattle.mesh_model.specs.Parts.{squares_in};
 ghost use Rattle.mesh_model.specs.Mesh.{part_at, mesh_of_parts};
 ghost use Rattle.mesh_laws.specs.Rings.{ring_triangles, ring_part, ring_parts, ring_parts_from, no_ring};
 ghost use Rattle.mesh_laws.specs.Conditions.{IsCut, IsSmall, AreLinked};
@@ -106,10 +106,10 @@ fn add_squares_part(
 }
 
 // The north-west corners of the squares of a block.
-#[tactic(auto, unfolding(mesh_model::specs::Parts::squares_between))]
+#[tactic(auto, unfolding(mesh_model::specs::Parts::squares_in))]
 fn squares_of(block: &Region) -> Region
     requires { IsWithin (2 ^ 24) block.now }
-    ensures { result ≡ squares_between block.now.x0 block.now.x1 block.now.y0 block.now.y1 }
+    ensures { result ≡ squares_in block.now }
 {
     Region {
         x0: block.x0,

@@ -4,7 +4,7 @@ ghost use Rattle.std.specs.Prelude.{◌≡◌, ◌+◌, ◌<◌, List, length, I
 ghost use Rattle.clip_regions.specs.declared.region.Region.{Region as PlainRegion};
 ghost use Rattle.clip_regions.specs.Regions.{contains};
 ghost use Rattle.terrain_model.specs.Terrain.{Terrain, level_height};
-ghost use Rattle.mesh_model.specs.Height.{active_of, lower_end, upper_end, vertex_height};
+ghost use Rattle.mesh_model.specs.Height.{active_at, lower_end, upper_end, vertex_height};
 ghost use Rattle.active_region.specs.Active.{AreActive};
 ghost use Rattle.mesh_laws.specs.Conditions.{IsCell};
 ghost use Rattle.ring_mesh.specs.Listed.{coarser_mean, HasHeights};
@@ -25,7 +25,7 @@ pub trait Heights {
     fn height(&self, level: u8, i: i32, j: i32) -> i16
         requires active { AreActive (regions self.now) }
         requires level { level < length (regions self.now) }
-        requires cell { IsTrue (contains (active_of (regions self.now) level) i j) }
+        requires cell { IsTrue (contains (active_at (regions self.now) level) i j) }
         ensures value { result ≡ level_height (terrain self.now) level i j };
 }
 
@@ -43,7 +43,7 @@ fn height_by_ends<G: Heights>(
 ) -> i32
     requires heights { HasHeights k actives.now level (G.regions heights.now) }
     requires finer { level + 1 < length actives.now }
-    requires cell { IsCell (active_of actives.now level) i j }
+    requires cell { IsCell (active_at actives.now level) i j }
     ensures value { result ≡ coarser_mean (G.terrain heights.now) k actives.now level i j own }
 {
     ends_are_active();
@@ -66,7 +66,7 @@ pub(crate) fn vertex_height<G: Heights>(
     j: i32,
 ) -> i32
     requires heights { HasHeights k actives.now level (G.regions heights.now) }
-    requires cell { IsCell (active_of actives.now level) i j }
+    requires cell { IsCell (active_at actives.now level) i j }
     ensures value { result ≡ vertex_height (G.terrain heights.now) k actives.now level i j }
 {
     holes_are_in_regions();

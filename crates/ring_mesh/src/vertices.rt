@@ -4,7 +4,7 @@ ghost use Rattle.std.specs.Prelude.{◌≡◌, ◌+◌, ◌<◌, ◌≤◌, ◌^
 ghost use Rattle.std.specs.Int.{int_gap};
 ghost use Rattle.clip_regions.specs.Regions.{columns, rows};
 ghost use Rattle.plan_model.specs.Limits.{IsSize};
-ghost use Rattle.mesh_model.specs.Height.{active_of};
+ghost use Rattle.mesh_model.specs.Height.{active_at};
 ghost use Rattle.mesh_model.specs.Vertices.{vertex_at, mesh_vertices};
 ghost use Rattle.active_region.specs.Active.{AreActive};
 ghost use Rattle.mesh_laws.specs.Rings;
@@ -44,7 +44,7 @@ fn position(level: u8, cell: i32) -> i32
 #[tactic(auto, unfolding(mesh_model::specs::Vertices::vertex_at))]
 fn vertex<G: Heights>(heights: &G, k: u8, actives: &Actives, level: u8, i: i32, j: i32) -> Vertex
     requires heights { HasHeights k actives.now level (G.regions heights.now) }
-    requires cell { IsCell (active_of actives.now level) i j }
+    requires cell { IsCell (active_at actives.now level) i j }
     ensures value { result ≡ vertex_at (G.terrain heights.now) k actives.now (record { level = level; i = i; j = j }) }
 {
     actives_are_in_reach();
@@ -77,7 +77,7 @@ fn vertex_of_run<G: Heights>(
     u: u32,
 ) -> Vertex
     requires heights { HasHeights k actives.now level (G.regions heights.now) }
-    requires run { HasRun (active_of actives.now level) run.now.i run.now.j run.now.count }
+    requires run { HasRun (active_at actives.now level) run.now.i run.now.j run.now.count }
     requires few { run.now.count ≤ 255 }
     requires cell { u < run.now.count }
     ensures { result ≡ vertex_at (G.terrain heights.now) k actives.now
@@ -97,7 +97,7 @@ fn add_run<G: Heights>(
     run: &Run,
 ) -> Result<(), AllocError>
     requires heights { HasHeights k actives.now level (G.regions heights.now) }
-    requires run { HasRun (active_of actives.now level) run.now.i run.now.j run.now.count }
+    requires run { HasRun (active_at actives.now level) run.now.i run.now.j run.now.count }
     requires few { run.now.count ≤ 255 }
     ensures { OnOk result (vertices.new.items ≡ vertices.old.items ++
         vertices_at (G.terrain heights.now) k actives.now level (Rings.run run.now.i run.now.j run.now.count)) }
@@ -175,7 +175,7 @@ fn add_row<G: Heights>(
 ) -> Result<(), AllocError>
     requires heights { HasHeights k actives.now level (G.regions heights.now) }
     requires ring { IsRing ring.now }
-    requires region { ring.now.active ≡ active_of actives.now level }
+    requires region { ring.now.active ≡ active_at actives.now level }
     requires row { v < rows ring.now.active }
     ensures { OnOk result (vertices.new.items ≡ vertices.old.items ++
         vertices_at (G.terrain heights.now) k actives.now level (ring_row ring.now.hole ring.now.active
@@ -203,7 +203,7 @@ fn add_ring<G: Heights>(
 ) -> Result<(), AllocError>
     requires heights { HasHeights k actives.now level (G.regions heights.now) }
     requires ring { IsRing ring.now }
-    requires region { ring.now.active ≡ active_of actives.now level }
+    requires region { ring.now.active ≡ active_at actives.now level }
     ensures { OnOk result (vertices.new.items ≡ vertices.old.items ++
         vertices_at (G.terrain heights.now) k actives.now level (ring_cells ring.now)) }
 {

@@ -7,7 +7,7 @@ use Rattle.clip_regions.specs.Regions.{is_empty, empty_region}
 use Rattle.mesh_model.specs.declared.shapes.Vertex.{Vertex}
 use Rattle.mesh_model.specs.declared.shapes.Part.{Part}
 use Rattle.mesh_model.specs.declared.shapes.PartKind.{PartKind}
-use Rattle.mesh_model.specs.Height.{active_of}
+use Rattle.mesh_model.specs.Height.{active_at}
 use Rattle.mesh_model.specs.Parts.{PartTriangles, stitches_along, stitch_part}
 use Rattle.mesh_model.specs.Mesh.{part_at, parts_from}
 use Rattle.mesh_laws.specs.declared.ring.Ring.{Ring}
@@ -89,14 +89,14 @@ pub no_side : (level : ℕ) (ring : Ring) (i : ℕ) → 4 ≤ i → map (side_pa
 no_side level ring i high = ap (map (side_part level ring)) (drop_all i sides high)
 
 -- ---- levels
-pub all_levels : (actives : List Region) → 0 < length actives → all_ring_stitches actives ≡ ring_stitches_from 0 (next_ring no_ring (active_of actives 0)) (drop 1 actives)
-unfolding active_of
+pub all_levels : (actives : List Region) → 0 < length actives → all_ring_stitches actives ≡ ring_stitches_from 0 (next_ring no_ring (active_at actives 0)) (drop 1 actives)
+unfolding active_at
 all_levels [] some = absurd (omega arith)
 all_levels (active ∷ coarser) some = refl
 
 pub next_level : (actives : List Region) (ring : Ring) (level : ℕ) → level < length actives →
-    ring_stitches_from (level - 1) ring (drop level actives) ≡ ring_stitches (level - 1) ring ++ ring_stitches_from (level - 1 + 1) (next_ring ring (active_of actives level)) (drop (level + 1) actives)
-unfolding active_of
+    ring_stitches_from (level - 1) ring (drop level actives) ≡ ring_stitches (level - 1) ring ++ ring_stitches_from (level - 1 + 1) (next_ring ring (active_at actives level)) (drop (level + 1) actives)
+unfolding active_at
 next_level actives ring level low =
     let next : suc level ≡ level + 1 = omega arith in
     ap (ring_stitches_from (level - 1) ring) (drop-cons actives level empty_region low ∙ (λ n. get_or actives level empty_region ∷ drop (next n) actives))

@@ -1,56 +1,39 @@
 -- Where levels meet both give one height, for any nested regions: at the border all is the coarser level's, and a margin inside nothing is blended.
-use Rattle.std.proofs.Common.{◌≡◌, ℕ, zero, suc, ◌+◌, ◌<◌, ◌≤◌, true, List, [], ◌∷◌, length, ℤ, pos, ◌+ℤ◌, ◌*ℤ◌, ◌≤ℤ◌, max, sym, subst, ◌∙◌, arith}
+use Rattle.std.proofs.Common.{◌≡◌, ℕ, suc, ◌+◌, ◌<◌, true, List, length, pos, ◌+ℤ◌, ◌*ℤ◌, sym, subst, ◌∙◌, arith}
 use Rattle.std.specs.Ordering.{int_eq}
-use Rattle.std.proofs.lemmas.Int.{ints, clamps}
+use Rattle.std.proofs.lemmas.Int.{ints}
 use Rattle.std.proofs.lemmas.Bool.{and_parts}
 use Rattle.clip_regions.specs.declared.region.Region.{Region}
-use Rattle.clip_regions.specs.Regions.{contains}
+use Rattle.clip_regions.specs.Regions.{contains, empty_region}
 use Rattle.clip_regions.proofs.Cells.{Lies, lies, cell_in}
 use Rattle.plan_model.specs.Limits.{IsSize}
-use Rattle.plan_model.specs.Window.{blend_width, margin}
+use Rattle.plan_model.specs.Window.{margin}
 use Rattle.plan_model.specs.Laws.{AreNested}
 use Rattle.terrain_model.specs.Terrain.{Terrain, level_height}
-use Rattle.mesh_model.specs.Height.{border_distance, active_of}
+use Rattle.mesh_model.specs.Height.{border_distance, active_at}
 use Rattle.mesh_model.specs.Vertices.{hole}
 use Rattle.mesh_model.specs.Watertight.{is_on_border, HeightsAgree}
 use Rattle.mesh_model.proofs.Rectangles.{IsInner, into_hole}
 use Rattle.mesh_laws.proofs.Rectangles.{IsDeep, hole_deep}
-use Rattle.mesh_laws.proofs.Seams.{lower_of_twice, upper_of_twice, height_at_border, height_inside}
+use Rattle.mesh_laws.proofs.Sizes.{inner_at}
+use Rattle.mesh_laws.proofs.Seams.{lower_of_twice, upper_of_twice, deep_distance, height_at_border, height_inside}
 use Rattle.watertight_laws.proofs.Picks.{same_from}
 
-inner_at : (e : ℕ) (actives : List Region) (level : ℕ) → AreNested e actives → level + 1 < length actives → IsInner e (active_of actives level) (active_of actives (level + 1))
-unfolding active_of
-inner_at e [] level nested low = absurd (omega (arith, low))
-inner_at e (active ∷ []) level nested low = absurd (omega (arith, low))
-inner_at e (active ∷ next ∷ coarser) zero nested low = nested.0
-inner_at e (active ∷ next ∷ coarser) (suc level) nested low =
-    let more : suc (level + 1) ≡ suc level + 1 = omega arith in
-    subst (λ (n : ℕ). IsInner e (active_of (next ∷ coarser) level) (active_of (active ∷ next ∷ coarser) n)) more (inner_at e (next ∷ coarser) level nested.1 (omega (arith, low)))
-
--- a cell of half of the finer region lies at least the blend width inside the coarser one
-deep_distance : (k : ℕ) (a b : Region) (i j : ℤ) → IsDeep (margin k) a b → Lies b i j → pos (blend_width k) ≤ℤ border_distance a i j
-unfolding border_distance margin
-deep_distance k a b i j d l =
-    let wide : blend_width k ≤ max 2 (blend_width k) = omega arith in
-    let dw = d.west in
-    let de = d.east in
-    let dn = d.north in
-    let ds = d.south in
-    let lw = l.west in
-    let le = l.east in
-    let ln = l.north in
-    let ls = l.south in
-    omega (arith, ints, clamps, wide, dw, de, dn, ds, lw, le, ln, ls)
+inner_at_next : (e : ℕ) (actives : List Region) (level : ℕ) → AreNested e actives → level + 1 < length actives → IsInner e (active_at actives level) (active_at actives (level + 1))
+unfolding active_at
+inner_at_next e actives level nested low =
+    let next : suc level ≡ level + 1 = omega arith in
+    subst (λ (n : ℕ). IsInner e (active_at actives level) (active_at actives n)) next (inner_at e actives level empty_region (omega (arith, low)) nested)
 
 pub heights_agree : (terrain : Terrain) (k : ℕ) (actives : List Region) → IsSize k → AreNested (margin k) actives → HeightsAgree terrain k actives
 unfolding is_on_border
 heights_agree terrain k actives size nested = λ level i j low border _.
-    let a = active_of actives level in
-    let b = active_of actives (level + 1) in
+    let a = active_at actives level in
+    let b = active_at actives (level + 1) in
     let distance = border_distance a (pos 2 *ℤ i) (pos 2 *ℤ j) in
     let parts : (contains a (pos 2 *ℤ i) (pos 2 *ℤ j) ≡ true) × (int_eq distance (pos 0) ≡ true) = and_parts (contains a (pos 2 *ℤ i) (pos 2 *ℤ j)) (int_eq distance (pos 0)) border in
     let inside : Lies (hole a) i j = into_hole a i j (lies a (pos 2 *ℤ i) (pos 2 *ℤ j) parts.0) in
-    let deep : IsDeep (margin k) b (hole a) = hole_deep (margin k) a b (inner_at (margin k) actives level nested low) (cell_in (hole a) i j inside) in
+    let deep : IsDeep (margin k) b (hole a) = hole_deep (margin k) a b (inner_at_next (margin k) actives level nested low) (cell_in (hole a) i j inside) in
     height_at_border terrain k actives level (pos 2 *ℤ i) (pos 2 *ℤ j) size low (same_from distance (pos 0) parts.1)
     ∙ (λ t. pos 16 *ℤ (level_height terrain (level + 1) (lower_of_twice i t) (lower_of_twice j t) +ℤ level_height terrain (level + 1) (upper_of_twice i t) (upper_of_twice j t)))
     ∙ omega (arith, ints)

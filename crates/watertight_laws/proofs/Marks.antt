@@ -6,11 +6,10 @@ use Rattle.std.proofs.lemmas.Int.{ints}
 use Rattle.std.proofs.lemmas.Bool.{cases_Bool, and_parts, and_from, false_from_ne_true, false≢true, eqb-true, eq-eqb}
 use Rattle.clip_regions.specs.FloorDivision.{floor_div, floor_rem}
 use Rattle.mesh_model.specs.declared.shapes.Vertex.{Vertex}
-use Rattle.mesh_model.specs.Vertices.{place_of}
+use Rattle.mesh_model.specs.Vertices.{place_of, vertex_of_place}
 use Rattle.mesh_model.specs.Parts.{corner_place}
 use Rattle.mesh_model.specs.Nested.{StandApart}
 use Rattle.mesh_model.specs.Laws.{OwnPlaces}
-use Rattle.mesh_model.specs.Watertight.{vertex_of_place}
 use Rattle.watertight_laws.specs.Edges.{Spot, Nowhere, At, is_at, coarser_spot}
 use Rattle.watertight_laws.specs.Laws.{spot_of}
 use Rattle.watertight_laws.proofs.Picks.{same_from, same_int}
@@ -21,7 +20,6 @@ use Rattle.clip_regions.proofs.Cells.{same_test}
 -- the vertex at a found place stands at the position
 stands : (vertices : List Vertex) (x z : ℤ) → place_of vertices x z < length vertices →
     ((vertex_of_place vertices (place_of vertices x z)).x ≡ x) × ((vertex_of_place vertices (place_of vertices x z)).z ≡ z)
-unfolding vertex_of_place
 stands [] x z low = absurd (omega (arith, low))
 stands (vertex ∷ vertices) x z low =
     elim (cases_Bool (int_eq vertex.x x && int_eq vertex.z z)) [
@@ -40,7 +38,7 @@ stands (vertex ∷ vertices) x z low =
 
 marked : (vertices : List Vertex) (a : ℕ) → AllPairs StandApart vertices → OwnPlaces → a < length vertices → (x z : ℤ) →
     (place_of vertices x z == a) ≡ is_at (spot_of vertices a) x z
-unfolding spot_of vertex_of_place
+unfolding spot_of
 marked vertices a apart own low x z =
     same_test (place_of vertices x z == a) (int_eq x (vertex_of_place vertices a).x && int_eq z (vertex_of_place vertices a).z) found there
   where

@@ -8,9 +8,9 @@ use lib.Signed.{le_z}
 use Rattle.clip_regions.specs.declared.region.Region.{Region}
 use Rattle.clip_regions.specs.Regions.{contains}
 use Rattle.mesh_model.specs.Vertices.{hole}
-use Rattle.mesh_model.specs.Parts.{squares_between}
+use Rattle.mesh_model.specs.Parts.{squares_in}
 use Rattle.mesh_laws.specs.Conditions.{HasHole}
-use Rattle.mesh_laws.specs.Squares.{squares_in, part_squares}
+use Rattle.mesh_laws.specs.Squares.{part_squares}
 use Rattle.mesh_laws.specs.Laws.{SquaresOnce}
 use Rattle.watertight_laws.specs.Edges.{squares_at, has_cell_at, north_steps, east_steps, south_steps, west_steps}
 use Rattle.watertight_laws.proofs.Sums.{one_if}
@@ -57,7 +57,7 @@ wider a b a' b' c low high e =
 
 -- ---- how many squares
 square_is : (r : Region) (x z : ℤ) → one_if (contains (squares_in r) x z) ≡ one_if (in_span r.x0 r.x1 x) * one_if (in_span r.y0 r.y1 z)
-unfolding contains squares_in squares_between
+unfolding contains squares_in
 square_is r x z = one_and (in_span r.x0 r.x1 x) (in_span r.y0 r.y1 z)
 
 squares_are : SquaresOnce → (finer active : Region) (x z : ℤ) → HasHole active (hole finer) →

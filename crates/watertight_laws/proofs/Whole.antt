@@ -11,12 +11,12 @@ use Rattle.plan_model.specs.Window.{margin}
 use Rattle.plan_model.specs.Actives.{actives}
 use Rattle.active_region.specs.Active.{IsWideOrEmpty}
 use Rattle.terrain_model.specs.Terrain.{Terrain}
-use Rattle.mesh_model.specs.Height.{active_of}
-use Rattle.mesh_model.specs.Vertices.{hole, mesh_vertices}
+use Rattle.mesh_model.specs.Height.{active_at}
+use Rattle.mesh_model.specs.Vertices.{hole, mesh_vertices, vertex_of_place}
 use Rattle.mesh_model.specs.Parts.{parts_of_regions}
 use Rattle.mesh_model.specs.Mesh.{mesh, mesh_of_parts}
 use Rattle.mesh_model.specs.Laws.{NestedNames, VerticesApart, OwnPlaces}
-use Rattle.mesh_model.specs.Watertight.{edge_count, scaled, covered, vertex_of_place, is_on_side, is_closed_by, is_closed, EdgesClose, IsWatertight}
+use Rattle.mesh_model.specs.Watertight.{edge_count, scaled, covered, is_on_side, is_closed_by, is_closed, EdgesClose, IsWatertight}
 use Rattle.mesh_laws.specs.Laws.{PartSquares, SquaresOnce}
 use Rattle.watertight_laws.specs.Edges.{Spot, Nowhere, At, coarser_spot, border_edges, square_edges_from, stitch_edges_from, edges_between}
 use Rattle.watertight_laws.specs.Laws.{spot_of}
@@ -72,7 +72,7 @@ outer_is active (next ∷ coarser) =
     scaled_more (length coarser) (slice_index_or (next ∷ coarser) (length coarser) empty_region) ∙ ap (scaled (pos 2)) (outer_is next coarser)
 
 covered_is : (active : Region) (coarser : List Region) → covered (active ∷ coarser) ≡ outer active coarser
-unfolding covered active_of
+unfolding covered active_at
 covered_is active coarser =
     let level : length (active ∷ coarser) - 1 ≡ length coarser = omega arith in
     ap (λ n. scaled (pos (2 ^ n)) (slice_index_or (active ∷ coarser) n empty_region)) level ∙ outer_is active coarser
@@ -108,7 +108,8 @@ stitches_self active (next ∷ coarser) p =
     let rest = stitches_self next coarser (coarser_spot p) in
     omega (arith, here, there, rest)
 
-none_self : (active : Region) (coarser : List Region) (p : Spot) → edges_between (active ∷ coarser) p p ≡ 0
+-- no edge goes from a spot to itself
+pub none_self : (active : Region) (coarser : List Region) (p : Spot) → edges_between (active ∷ coarser) p p ≡ 0
 unfolding edges_between
 none_self active coarser p =
     let squares = squares_self empty_region (active ∷ coarser) p in

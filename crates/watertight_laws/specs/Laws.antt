@@ -6,10 +6,10 @@ use Rattle.plan_model.specs.Laws.{AllEvenOrEmpty, AreNested}
 use Rattle.active_region.specs.Active.{IsWideOrEmpty, AreDrawn, AreActive}
 use Rattle.terrain_model.specs.Terrain.{Terrain}
 use Rattle.mesh_model.specs.declared.shapes.Vertex.{Vertex}
-use Rattle.mesh_model.specs.Vertices.{mesh_vertices}
+use Rattle.mesh_model.specs.Vertices.{mesh_vertices, vertex_of_place}
 use Rattle.mesh_model.specs.Mesh.{mesh}
 use Rattle.plan_model.specs.Actives.{actives}
-use Rattle.mesh_model.specs.Watertight.{vertex_of_place, edge_count, EdgesClose, IsWatertight}
+use Rattle.mesh_model.specs.Watertight.{edge_count, EdgesClose, IsWatertight}
 use Rattle.watertight_laws.specs.Edges.{Spot, At, edges_between}
 
 -- where the vertex at a place stands on the finest level

@@ -6,7 +6,7 @@ use Rattle.clip_regions.specs.Regions.{is_empty}
 use Rattle.terrain_model.specs.Terrain.{Terrain}
 use Rattle.mesh_model.specs.declared.shapes.PartKind.TheVariants.{Whole}
 use Rattle.mesh_model.specs.Vertices.{mesh_vertices}
-use Rattle.mesh_model.specs.Parts.{PartTriangles, square_part, squares_between, parts_of_regions}
+use Rattle.mesh_model.specs.Parts.{PartTriangles, square_part, squares_in, parts_of_regions}
 use Rattle.mesh_model.specs.Mesh.{mesh, mesh_of_parts, parts_from, part_at, bounds_of, vertices_of}
 use Rattle.mesh_model.specs.OneLevel.{one_level_vertices}
 use Rattle.mesh_model.proofs.Single.{single_vertices, single_place, single_part, single_triangles}
@@ -21,7 +21,7 @@ returns-clause-places c = λ terrain r u v narrow low. single_place terrain r u 
 
 -- the parts, over the closed form of the vertices
 parts_are : (terrain : Terrain) (k : ℕ) (r : Region) → k ≤ 8 → is_empty r ≡ false →
-    parts_of_regions (mesh_vertices terrain k (r ∷ [])) (r ∷ []) ≡ square_part (one_level_vertices terrain r) 0 Whole (squares_between r.x0 r.x1 r.y0 r.y1) ∷ []
+    parts_of_regions (mesh_vertices terrain k (r ∷ [])) (r ∷ []) ≡ square_part (one_level_vertices terrain r) 0 Whole (squares_in r) ∷ []
 parts_are terrain k r high some =
     ap (λ vertices. parts_of_regions vertices (r ∷ [])) (single_vertices terrain k r high)
     ∙ single_part (one_level_vertices terrain r) r some
@@ -30,7 +30,7 @@ pub returns-clause-triangles : goal.returns-clause-triangles
 unfolding mesh mesh_of_parts
 returns-clause-triangles c = λ terrain k r high some.
     ap (flat_map (λ (part : PartTriangles). part.triangles)) (parts_are terrain k r high some)
-    ∙ append-nil ((square_part (one_level_vertices terrain r) 0 Whole (squares_between r.x0 r.x1 r.y0 r.y1)).triangles)
+    ∙ append-nil ((square_part (one_level_vertices terrain r) 0 Whole (squares_in r)).triangles)
     ∙ single_triangles terrain r
 
 pub returns-clause-parts : goal.returns-clause-parts

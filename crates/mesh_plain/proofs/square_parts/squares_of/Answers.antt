@@ -1,12 +1,12 @@
 -- The differences fit.
 use Rattle.std.proofs.Common.{◌≡◌, pos, ◌-ℤ◌, w32, arith, rules}
 use Rattle.std.proofs.lemmas.Int.{ints, to_z-of_z}
-use Rattle.mesh_model.specs.Parts.{squares_between}
+use Rattle.mesh_model.specs.Parts.{squares_in}
 use Rattle.mesh_plain.proofs.square_parts.squares_of.Goals as goal
 use mir.Val.{to_z, of_z, SFits}
 
 pub returns : goal.returns
-unfolding squares_between
+unfolding squares_in
 returns c =
     let x0 : SFits w32 c.args.block.now.x0 = search rules in
     let y0 : SFits w32 c.args.block.now.y0 = search rules in

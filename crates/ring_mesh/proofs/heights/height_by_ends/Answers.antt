@@ -4,7 +4,7 @@ use Rattle.std.specs.Int.{w16}
 use Rattle.std.proofs.lemmas.Int.{to_z-of_z}
 use Rattle.clip_regions.specs.Regions.{contains}
 use Rattle.terrain_model.specs.Terrain.{level_height}
-use Rattle.mesh_model.specs.Height.{active_of, lower_end, upper_end, blended_height}
+use Rattle.mesh_model.specs.Height.{active_at, lower_end, upper_end, blended_height}
 use Rattle.ring_mesh.specs.Listed.{coarser_mean}
 use Rattle.ring_mesh.proofs.heights.height_by_ends.Goals as goal
 use mir.Val.{SFits}
@@ -15,7 +15,7 @@ height-a-requires-clause-cell g c =
     let fj : SFits w32 c.ends-ai.result.1 = search rules in
     let ai = to_z-of_z w32 c.ends-ai.result.0 fi ∙ c.ends-ai.ensures.ai ∙ ap lower_end (to_z-of_z w32 c.args.i c.ranges.i) in
     let aj = to_z-of_z w32 c.ends-ai.result.1 fj ∙ c.ends-ai.ensures.aj ∙ ap lower_end (to_z-of_z w32 c.args.j c.ranges.j) in
-    (λ t. contains (active_of (c.requires.heights.same t) (c.args.level + 1)) (ai t) (aj t))
+    (λ t. contains (active_at (c.requires.heights.same t) (c.args.level + 1)) (ai t) (aj t))
     ∙ c.ends_are_active.ensures.lower c.args.actives.now c.args.level c.args.i c.args.j c.at-active.ensures.active c.requires.finer c.requires.cell
 
 pub height-b-requires-clause-cell : goal.height-b-requires-clause-cell
@@ -24,17 +24,17 @@ height-b-requires-clause-cell g c =
     let fj : SFits w32 c.ends-ai.result.3 = search rules in
     let bi = to_z-of_z w32 c.ends-ai.result.2 fi ∙ c.ends-ai.ensures.bi ∙ ap upper_end (to_z-of_z w32 c.args.i c.ranges.i) in
     let bj = to_z-of_z w32 c.ends-ai.result.3 fj ∙ c.ends-ai.ensures.bj ∙ ap upper_end (to_z-of_z w32 c.args.j c.ranges.j) in
-    (λ t. contains (active_of (c.requires.heights.same t) (c.args.level + 1)) (bi t) (bj t))
+    (λ t. contains (active_at (c.requires.heights.same t) (c.args.level + 1)) (bi t) (bj t))
     ∙ c.ends_are_active.ensures.upper c.args.actives.now c.args.level c.args.i c.args.j c.at-active.ensures.active c.requires.finer c.requires.cell
 
 pub blended-requires-clause-inside : goal.blended-requires-clause-inside
-unfolding active_of
+unfolding active_at
 blended-requires-clause-inside g c =
     (λ t. contains (c.at-active.ensures.value t) (to_z-of_z w32 c.args.i c.ranges.i t) (to_z-of_z w32 c.args.j c.ranges.j t))
-    ∙ c.holes_are_in_regions.ensures.contained (active_of c.args.actives.now c.args.level) c.args.i c.args.j c.requires.cell
+    ∙ c.holes_are_in_regions.ensures.contained (active_at c.args.actives.now c.args.level) c.args.i c.args.j c.requires.cell
 
 pub returns : goal.returns
-unfolding active_of coarser_mean
+unfolding active_at coarser_mean
 returns g c =
     let terrain = g.G.Heights.terrain c.args.heights.now in
     let i = to_z-of_z w32 c.args.i c.ranges.i in

@@ -3,7 +3,7 @@ use Rattle.std.proofs.Common.{◌≡◌, ℕ, ◌+◌, ◌<◌, ◌≤◌, List,
 use Rattle.clip_regions.specs.declared.region.Region.{Region}
 use Rattle.terrain_model.specs.Terrain.{Terrain}
 use Rattle.mesh_model.specs.declared.shapes.Vertex.{Vertex}
-use Rattle.mesh_model.specs.Height.{active_of}
+use Rattle.mesh_model.specs.Height.{active_at}
 use Rattle.mesh_laws.specs.declared.ring.Ring.{Ring}
 use Rattle.mesh_laws.specs.Rings.{no_ring, next_ring}
 use Rattle.mesh_laws.specs.Conditions.{IsBefore, IsRing}
@@ -25,19 +25,19 @@ next_ring-ring-requires-clause-even g c =
     (c.rings_are_linked.ensures.linked c.args.actives.now c.loop-level.level c.loop-level.finer c.levels-level-end.ensures.active low c.loop-level.invariant.before).even
 
 pub add_ring-requires-clause-ring : goal.add_ring-requires-clause-ring
-unfolding active_of
+unfolding active_at
 add_ring-requires-clause-ring g c =
     let low : c.loop-level.level < length c.args.actives.now = omega (arith, c.loop-level-test.true, c.levels-level-end.ensures.value) in
     subst IsRing (sym (c.next_ring-ring.ensures.value ∙ ap (next_ring c.loop-level.finer) c.at.ensures.value))
     (c.rings_are_linked.ensures.linked c.args.actives.now c.loop-level.level c.loop-level.finer c.levels-level-end.ensures.active low c.loop-level.invariant.before).own
 
 pub add_ring-requires-clause-region : goal.add_ring-requires-clause-region
-unfolding active_of next_ring
+unfolding active_at next_ring
 add_ring-requires-clause-region g c =
     ap (λ (r : Ring). r.active) c.next_ring-ring.ensures.value ∙ c.at.ensures.value
 
 pub loop-level-preserved : goal.loop-level-preserved
-unfolding active_of
+unfolding active_at
 loop-level-preserved g c =
     let terrain = g.G.Heights.terrain c.args.heights.now in
     let k = c.args.k in
@@ -46,7 +46,7 @@ loop-level-preserved g c =
     let finer = c.loop-level.finer in
     let low : level < length actives = omega (arith, c.loop-level-test.true, c.levels-level-end.ensures.value) in
     let e = c.next_ring-ring.ensures.value ∙ ap (next_ring finer) c.at.ensures.value in
-    let added : c.add_ring.new.vertices.items ≡ c.loop-level.vertices.items ++ vertices_at terrain k actives level (ring_cells (next_ring finer (active_of actives level))) =
+    let added : c.add_ring.new.vertices.items ≡ c.loop-level.vertices.items ++ vertices_at terrain k actives level (ring_cells (next_ring finer (active_at actives level))) =
     subst (λ (r : Ring). c.add_ring.new.vertices.items ≡ c.loop-level.vertices.items ++ vertices_at terrain k actives level (ring_cells r)) e c.in_ok-add_ring.ensures in
     subst (λ (r : Ring). IsListed terrain k actives (level + 1) r c.add_ring.new.vertices.items) (sym e)
     (next_listed terrain k actives level finer c.loop-level.vertices.items c.add_ring.new.vertices.items low c.rings_have_rows.ensures.rows c.loop-level.invariant added

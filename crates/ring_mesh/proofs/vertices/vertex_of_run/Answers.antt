@@ -1,7 +1,7 @@
 -- The cell lies in the region, and its column is read back.
 use Rattle.std.proofs.Common.{ℤ, pos, ◌+ℤ◌, ◌∙◌, sym, subst, w32, rules}
 use Rattle.std.proofs.lemmas.Int.{to_z-of_z}
-use Rattle.mesh_model.specs.Height.{active_of}
+use Rattle.mesh_model.specs.Height.{active_at}
 use Rattle.mesh_model.specs.Vertices.{vertex_at}
 use Rattle.mesh_laws.specs.Conditions.{IsCell}
 use Rattle.ring_mesh.proofs.Cells.{cell_of, column_of}
@@ -10,7 +10,7 @@ use mir.Val.{SFits, to_z, of_z}
 
 pub vertex-requires-clause-cell : goal.vertex-requires-clause-cell
 vertex-requires-clause-cell g c =
-    let r = active_of c.args.actives.now c.args.level in
+    let r = active_at c.args.actives.now c.args.level in
     let run = c.args.run.now in
     let fits : SFits w32 run.j = search rules in
     let e = column_of r run.i run.j run.count c.args.u c.requires.run c.requires.cell c.requires.few in
@@ -19,7 +19,7 @@ vertex-requires-clause-cell g c =
 
 pub returns : goal.returns
 returns g c =
-    let r = active_of c.args.actives.now c.args.level in
+    let r = active_at c.args.actives.now c.args.level in
     let run = c.args.run.now in
     let fits : SFits w32 run.j = search rules in
     let e = column_of r run.i run.j run.count c.args.u c.requires.run c.requires.cell c.requires.few in

@@ -2,7 +2,7 @@
 use Rattle.std.proofs.Common.{◌≡◌, ℕ, ◌+◌, ◌-◌, ◌<◌, ◌≤◌, List, length, drop, refl, sym, subst, ◌∙◌, arith}
 use Rattle.clip_regions.specs.declared.region.Region.{Region}
 use Rattle.plan_model.specs.Laws.{IsEvenOrEmpty}
-use Rattle.mesh_model.specs.Height.{active_of}
+use Rattle.mesh_model.specs.Height.{active_at}
 use Rattle.mesh_model.specs.Parts.{PartTriangles}
 use Rattle.mesh_laws.specs.declared.ring.Ring.{Ring}
 use Rattle.mesh_laws.specs.Rings.{no_ring, next_ring}
@@ -26,11 +26,11 @@ next_ring-ring-requires-clause-even c =
     (c.rings_are_linked.ensures.linked actives 0 no_ring drawn some (c.rings_are_linked.ensures.first actives)).even
 
 -- the ring of the code is that of the definition
-ring_is : (actives : List Region) (level : ℕ) (finer finer' ring : Ring) (active : Region) → finer' ≡ finer → active ≡ active_of actives level → ring ≡ next_ring finer' active → ring ≡ next_ring finer (active_of actives level)
+ring_is : (actives : List Region) (level : ℕ) (finer finer' ring : Ring) (active : Region) → finer' ≡ finer → active ≡ active_at actives level → ring ≡ next_ring finer' active → ring ≡ next_ring finer (active_at actives level)
 ring_is actives level finer finer' ring active ef ea er = er ∙ (λ t. next_ring (ef t) (ea t))
 
 pub loop-level-init : goal.loop-level-init
-unfolding active_of
+unfolding active_at
 loop-level-init c =
     let v = c.args.vertices.now in
     let actives = c.args.actives.now in
@@ -58,7 +58,7 @@ add_border-requires-clause-few c =
     let level = c.loop-level.level in
     let ring = c.loop-level.ring in
     let low : level < length actives = omega (arith, c.loop-level-test.true, c.levels-levels.ensures.value) in
-    first_few c.args.vertices.now (all_ring_stitches actives) (ring_stitches (level - 1) ring) (ring_stitches_from (level - 1 + 1) (next_ring ring (active_of actives level)) (drop (level + 1) actives)) (ring_stitches_from (level - 1) ring (drop level actives))
+    first_few c.args.vertices.now (all_ring_stitches actives) (ring_stitches (level - 1) ring) (ring_stitches_from (level - 1 + 1) (next_ring ring (active_at actives level)) (drop (level + 1) actives)) (ring_stitches_from (level - 1) ring (drop level actives))
     c.args.faces.now.triangles.items c.loop-level.faces.triangles.items c.args.faces.now.parts.items c.loop-level.faces.parts.items c.parts_add_up.ensures.few_first (next_level actives ring level low) c.loop-level.invariant.left
 
 pub next_ring-ring-requires-in-loop-level-clause-even : goal.next_ring-ring-requires-in-loop-level-clause-even
@@ -68,7 +68,7 @@ next_ring-ring-requires-in-loop-level-clause-even c =
     (c.rings_are_linked.ensures.linked actives c.loop-level.level c.loop-level.ring c.levels-levels.ensures.active low c.loop-level.invariant.before).even
 
 pub loop-level-preserved : goal.loop-level-preserved
-unfolding active_of
+unfolding active_at
 loop-level-preserved c =
     let v = c.args.vertices.now in
     let actives = c.args.actives.now in
@@ -79,7 +79,7 @@ loop-level-preserved c =
     let t2 = c.add_border.new.faces.triangles.items in
     let p2 = c.add_border.new.faces.parts.items in
     let all = all_ring_stitches actives in
-    let next = next_ring ring (active_of actives level) in
+    let next = next_ring ring (active_at actives level) in
     let drawn = c.levels-levels.ensures.active in
     let low : level < length actives = omega (arith, c.loop-level-test.true, c.levels-levels.ensures.value) in
     let same : level - 1 + 1 ≡ level + 1 - 1 = omega (arith, c.loop-level.auto.level) in
