@@ -1,5 +1,5 @@
 -- Each part of a mesh of a frame's active regions has a triangle.
-use Rattle.std.proofs.Common.{◌≡◌, ℕ, ◌+◌, ◌*◌, ◌%◌, ◌<◌, ◌≤◌, true, false, ℤ, pos, ◌+ℤ◌, ◌-ℤ◌, ◌≤ℤ◌, ◌<ℤ◌, List, [], ◌∷◌, ◌++◌, length, reverse, refl, ap, sym, ◌∙◌, subst, inl, inr, ◌⊎◌, arith}
+use Rattle.std.proofs.Common.{◌≡◌, ℕ, ◌+◌, ◌*◌, ◌%◌, ◌≤◌, false, ℤ, pos, ◌+ℤ◌, ◌-ℤ◌, ◌≤ℤ◌, ◌<ℤ◌, List, [], ◌∷◌, ◌++◌, length, reverse, refl, ap, sym, ◌∙◌, subst, inl, inr, arith}
 use Rattle.std.specs.List.{All}
 use Rattle.std.specs.Int.{int_gap}
 use Rattle.std.proofs.Math.Nat.{one-le-mul}
@@ -8,7 +8,7 @@ use Rattle.std.proofs.lemmas.Bool.{cases_Bool, true≢false}
 use Rattle.std.proofs.lemmas.List.{length-reverse}
 use Rattle.std.proofs.lemmas.List.Elements.{All-nil, All-cons, All-append, All-head, All-tail}
 use Rattle.clip_regions.specs.declared.region.Region.{Region}
-use Rattle.clip_regions.specs.FloorDivision.{floor_div, floor_rem}
+use Rattle.clip_regions.specs.FloorDivision.{floor_div}
 use Rattle.clip_regions.specs.Regions.{is_empty, empty_region, columns, rows, HasEvenCorners}
 use Rattle.clip_regions.proofs.Cells.{HasCell, has_cell, not_empty, empty_is_empty}
 use Rattle.clip_regions.proofs.Gaps.{gap_by}
@@ -22,7 +22,7 @@ use Rattle.mesh_model.specs.declared.shapes.Part.{Part}
 use Rattle.mesh_model.specs.declared.shapes.PartKind.{PartKind}
 use Rattle.mesh_model.specs.declared.shapes.PartKind.TheVariants.{Whole, North, West, East, South, StitchNorth, StitchEast, StitchSouth, StitchWest}
 use Rattle.mesh_model.specs.Vertices.{hole, mesh_vertices}
-use Rattle.mesh_model.specs.Parts.{PartTriangles, corners_at, squares_in, square_part, square_parts, square_parts_from, stitches_along, places_in_row, places_in_column, stitch_part, stitch_parts, stitch_parts_from, all_stitch_parts, parts_of_regions}
+use Rattle.mesh_model.specs.Parts.{PartTriangles, corners_at, squares_in, square_part, square_parts, square_parts_from, places_in_row, places_in_column, stitch_part, stitch_parts, stitch_parts_from, all_stitch_parts, parts_of_regions}
 use Rattle.mesh_model.specs.Mesh.{part_at, parts_from, mesh_of_parts, mesh}
 use Rattle.mesh_model.proofs.Rectangles.{rem_below, half_and_rest, hole_is, hole_needs_cell, IsInner}
 use Rattle.mesh_model.proofs.Named.{from_nothing}
