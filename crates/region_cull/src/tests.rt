@@ -84,9 +84,19 @@ fn drops_boxes(rt: HostRuntime) {
 fn keeps_all_or_nothing(rt: HostRuntime) {
     let mut view = View::empty();
     assert_eq!(rt; kept(&BOX, &view), true);
-    view.add(half(1, 0, 0, -2));
+    view.add(HalfSpace {
+        a: 1,
+        b: 0,
+        c: 0,
+        d: -2,
+    });
     assert_eq!(rt; kept(&BOX, &view), true);
-    view.add(half(0, 0, 0, -1));
+    view.add(HalfSpace {
+        a: 0,
+        b: 0,
+        c: 0,
+        d: -1,
+    });
     assert_eq!(rt; kept(&BOX, &view), false);
 }
 
