@@ -1,5 +1,5 @@
 -- Which cells a small region has.
-use Rattle.std.proofs.Common.{◌≡◌, Bool, true, false, ◌&&◌, ℕ, ◌+◌, ◌*◌, ◌/◌, ◌%◌, ◌<◌, ℤ, pos, negsuc, nat_abs, ◌+ℤ◌, ◌-ℤ◌, ◌≤ℤ◌, List, get_or, set, length, cond, ap, sym, ◌∙◌, subst, ⊎_elim, arith, get_or-set_same, get_or-set_other}
+use Rattle.std.proofs.Common.{◌≡◌, Bool, true, false, ◌&&◌, ℕ, ◌+◌, ◌*◌, ◌/◌, ◌%◌, ◌<◌, ℤ, pos, negsuc, nat_abs, ◌+ℤ◌, ◌-ℤ◌, ◌≤ℤ◌, ◌<ℤ◌, List, get_or, set, length, cond, ap, sym, ◌∙◌, subst, ⊎_elim, arith, get_or-set_same, get_or-set_other}
 use Rattle.std.proofs.lemmas.Bool.{cases_eq}
 use Rattle.std.specs.Int.{w16}
 use Rattle.std.proofs.lemmas.Int.{to_z-of_z}
@@ -11,14 +11,14 @@ use Rattle.block_heights.specs.declared.block.PieceFault.{PieceFault}
 use Rattle.block_heights.specs.declared.block.PieceFault.TheVariants.{BadBlock, OutOfRange}
 use Rattle.std.proofs.lemmas.Int.{ints}
 use Rattle.std.proofs.lemmas.Bool.{and_parts, and_from}
-use Rattle.std.proofs.lemmas.Nat.{div_below, mod_below}
+use Rattle.std.proofs.lemmas.Nat.{div_below, mod_below, div-mul-add, mod-mul-add, div-add-mod'}
 use Rattle.std.specs.Int.{int_gap}
 use lib.Signed.{le_z}
 use mathlib.Core.Path.{ap₂}
 use Rattle.clip_regions.specs.declared.region.Region.{Region}
 use Rattle.clip_regions.specs.Regions.{contains, columns, rows}
 use Rattle.block_heights.specs.Rows.{signed_cell, table_code, cell_of}
-use Rattle.block_heights.specs.Pieces.{IsPieceUpTo, AreNearUpTo, IsOutCell, HasOut, IsSmall, Lies, within, plain_height, column_of, row_of}
+use Rattle.block_heights.specs.Pieces.{IsCellAt, IsPieceUpTo, AreNearUpTo, IsOutCell, HasOut, IsSmall, Lies, within, plain_height, column_of, row_of}
 use Rattle.terrain_model.specs.Tile.{raw_sample}
 use Rattle.clip_regions.proofs.Cells.{tested_le, le_tested}
 use Rattle.clip_regions.proofs.Sizes.{gap_is}
@@ -95,6 +95,44 @@ cell_lies region k small h =
       south = omega (arith, ints);
     }
 
+-- ---- one cell after another
+pub cell_starts : (region : Region) → IsSmall region → IsCellAt region 0 region.x0 region.y0
+cell_starts region small =
+    let across = columns_is region small.some_columns in
+    let some = small.some_columns in
+    let w = columns region in
+    let wide : 0 < columns region = omega (arith, ints) in
+    let zero_is : 0 * w + 0 ≡ 0 = omega arith in
+    let column : 0 % w ≡ 0 = ap (λ (n : ℕ). n % w) (sym zero_is) ∙ mod-mul-add 0 w 0 wide in
+    let row : 0 / w ≡ 0 = ap (λ (n : ℕ). n / w) (sym zero_is) ∙ div-mul-add 0 w 0 wide in
+    record { column = omega (arith, ints, column); row = omega (arith, ints, row) }
+
+pub cell_next : (region : Region) (k : ℕ) (i j x : ℤ) → IsSmall region → i ≡ column_of region k → j ≡ row_of region k → i <ℤ region.x1 → x ≡ i +ℤ pos 1 → IsCellAt region (k + 1) x j
+cell_next region k i j x small e f inside next =
+    let across = columns_is region small.some_columns in
+    let some = small.some_columns in
+    let w = columns region in
+    let wide : 0 < columns region = omega (arith, ints) in
+    let below : k % w + 1 < w = omega (arith, ints, e, across, inside) in
+    let whole : k + 1 ≡ k / w * w + (k % w + 1) = (let d = div-add-mod' k w in omega (arith, d)) in
+    let column : (k + 1) % w ≡ k % w + 1 = ap (λ (n : ℕ). n % w) whole ∙ mod-mul-add (k / w) w (k % w + 1) below in
+    let row : (k + 1) / w ≡ k / w = ap (λ (n : ℕ). n / w) whole ∙ div-mul-add (k / w) w (k % w + 1) below in
+    record { column = omega (arith, ints, e, next, column); row = f ∙ ap (λ (n : ℕ). region.y0 +ℤ pos n) (sym row) }
+
+pub cell_wraps : (region : Region) (k : ℕ) (i j y : ℤ) → IsSmall region → i ≡ column_of region k → j ≡ row_of region k → region.x1 ≤ℤ i → y ≡ j +ℤ pos 1 → IsCellAt region (k + 1) region.x0 y
+cell_wraps region k i j y small e f last next =
+    let across = columns_is region small.some_columns in
+    let some = small.some_columns in
+    let w = columns region in
+    let wide : 0 < columns region = omega (arith, ints) in
+    let below : k % w < w = mod_below k w wide in
+    let ends : k % w + 1 ≡ w = omega (arith, ints, e, across, last, below) in
+    let more : (k / w + 1) * w + 0 ≡ k / w * w + w = grind arith in
+    let whole : k + 1 ≡ (k / w + 1) * w + 0 = (let d = div-add-mod' k w in omega (arith, d, ends, more)) in
+    let column : (k + 1) % w ≡ 0 = ap (λ (n : ℕ). n % w) whole ∙ mod-mul-add (k / w + 1) w 0 wide in
+    let row : (k + 1) / w ≡ k / w + 1 = ap (λ (n : ℕ). n / w) whole ∙ div-mul-add (k / w + 1) w 0 wide in
+    record { column = omega (arith, ints, column); row = omega (arith, ints, f, next, row) }
+
 pub lies_same : (r : Region) (i j a b : ℤ) → a ≡ i → b ≡ j → Lies r i j → Lies r a b
 lies_same r i j a b e f h = subst (λ (x : ℤ). Lies r x b) (sym e) (subst (λ (y : ℤ). Lies r i y) (sym f) h)
 
@@ -147,3 +185,9 @@ pub near_at : (coarser : ℤ → ℤ → ℤ) (step : ℕ) (code : ℤ → ℤ �
 near_at coarser step code inside i j a b e f h =
     subst (λ (x : ℤ). contains inside x b ≡ true → IsNear step (value_of coarser step x b (code x b))) e
     (subst (λ (y : ℤ). contains inside i y ≡ true → IsNear step (value_of coarser step i y (code i y))) f h)
+
+pub cell_same : (region : Region) (k : ℕ) (i j x y : ℤ) → x ≡ i → y ≡ j → IsCellAt region k i j → IsCellAt region k x y
+cell_same region k i j x y e f cell = record { column = e ∙ cell.column; row = f ∙ cell.row }
+
+pub cell_inside : (region : Region) (k : ℕ) (i j : ℤ) → IsSmall region → k < columns region * rows region → IsCellAt region k i j → Lies region i j
+cell_inside region k i j small h cell = lies_same region (column_of region k) (row_of region k) i j cell.column cell.row (cell_lies region k small h)

@@ -42,6 +42,11 @@ column_of region k = region.x0 +ℤ pos (k % columns region)
 abbrev pub row_of : Region → ℕ → ℤ
 row_of region k = region.y0 +ℤ pos (k / columns region)
 
+-- a column and a row are those of cell k, or of the place behind the last cell
+pub record IsCellAt (region : Region) (k : ℕ) (i j : ℤ) : Type 0 where
+  pub column : i ≡ column_of region k
+  pub row : j ≡ row_of region k
+
 -- the first n numbers are the heights of a region's cells, row by row
 abbrev pub IsPieceUpTo : ℕ → (ℤ → ℤ → ℤ) → Region → List ℤ → Type 0
 IsPieceUpTo n heights region out =

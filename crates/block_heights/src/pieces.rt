@@ -6,7 +6,7 @@ ghost use Rattle.terrain_model.specs.Tile.{raw_sample};
 ghost use Rattle.four_point.specs.Patches.{patch_height, IsOfBlock};
 ghost use Rattle.four_point.specs.Steps.{IsStep, IsNear, value_of};
 ghost use Rattle.block_heights.specs.Rows.{table_code, HasCodes};
-ghost use Rattle.block_heights.specs.Pieces.{IsSmall, Lies, IsInPatch, within, column_of, row_of, IsPieceUpTo, plain_height, coded_height, AreNearUpTo, HasOut, IsOutCell};
+ghost use Rattle.block_heights.specs.Pieces.{IsSmall, Lies, IsInPatch, within, column_of, row_of, IsCellAt, IsPieceUpTo, plain_height, coded_height, AreNearUpTo, HasOut, IsOutCell};
 ghost use Rattle.clip_regions.specs.Regions.{area};
 ghost use Rattle.rice_residuals.specs.Faults.{HasFault};
 ghost use Rattle.store_model.specs.Blocks.{code_count};
@@ -17,7 +17,7 @@ use crate::block::{Block, Kind, PieceFault};
 use crate::codes::{Sides, code_table, count_of};
 use byteorder::{BigEndian, ByteOrder};
 use clip_regions::Region;
-use four_point::{Patch, bring, value_by};
+use four_point::{BlockPredictions, Patch, bring, predict_block};
 use rice_residuals::{BlockFault, read_block};
 
 /// How many columns and rows a region has.
@@ -46,18 +46,35 @@ struct Cell {
     j: i32,
 }
 
-// Cell `k` of a region, row by row from the north and each row from the west.
-fn cell_at(region: Region, k: usize) -> Cell
-    requires region { IsSmall region }
-    requires inside { k < columns region * rows region }
-    ensures column { result.i ≡ column_of region k }
-    ensures row { result.j ≡ row_of region k }
-    ensures inside { Lies region result.i result.j }
+// The first cell of a region.
+#[inline]
+fn first_of(region: Region) -> Cell
+    requires { IsSmall region }
+    ensures { IsCellAt region 0 result.i result.j }
 {
-    let width = sides_of(region).columns;
     Cell {
-        i: region.x0 + (k % width) as i32,
-        j: region.y0 + (k / width) as i32,
+        i: region.x0,
+        j: region.y0,
+    }
+}
+
+// The cell after one of a region, row by row from the north and each row from the west.
+#[inline]
+fn next_cell(region: Region, cell: Cell) -> Cell
+    requires region { IsSmall region }
+    requires inside { Lies region cell.i cell.j }
+    ensures { (k : ℕ) → cell.i ≡ column_of region k → cell.j ≡ row_of region k → IsCellAt region (k + 1) result.i result.j }
+{
+    if cell.i < region.x1 {
+        Cell {
+            i: cell.i + 1,
+            j: cell.j,
+        }
+    } else {
+        Cell {
+            i: region.x0,
+            j: cell.j + 1,
+        }
     }
 }
 
@@ -112,6 +129,7 @@ fn code_at(table: &[[i32; 8]; 8], region: Region, cell: Cell) -> i32
 #[derive(Clone, Copy)]
 struct Codes<'a> {
     patch: &'a Patch,
+    predicted: &'a BlockPredictions<'a>,
     table: &'a [[i32; 8]; 8],
     inside: Region,
     step: u8,
@@ -121,6 +139,7 @@ struct Codes<'a> {
 fn height_at(codes: Codes<'_>, cell: Cell) -> Result<i16, PieceFault>
     requires inside { IsSmall codes.inside }
     requires patch { IsInPatch codes.patch.now codes.inside }
+    requires predicted { codes.predicted.now.patch.now ≡ codes.patch.now }
     requires step { IsStep codes.step }
     requires in_range { (b : ℕ) → HasCodes (slice_index_or codes.table.now b []) }
 
@@ -138,7 +157,7 @@ fn height_at(codes: Codes<'_>, cell: Cell) -> Result<i16, PieceFault>
         return Ok(0);
     }
     let code = code_at(codes.table, codes.inside, cell);
-    let value = value_by(codes.patch, cell.i, cell.j, code, codes.step);
+    let value = codes.predicted.value_by(cell.i, cell.j, code, codes.step);
     if !is_near(value, codes.step) {
         return Err(PieceFault::OutOfRange {
             i: cell.i,
@@ -153,6 +172,7 @@ fn height_at(codes: Codes<'_>, cell: Cell) -> Result<i16, PieceFault>
 fn fill_coded(codes: Codes<'_>, cells: Region, out: &mut [i16]) -> Result<(), PieceFault>
     requires inside { IsSmall codes.inside }
     requires patch { IsInPatch codes.patch.now codes.inside }
+    requires predicted { codes.predicted.now.patch.now ≡ codes.patch.now }
     requires step { IsStep codes.step }
     requires in_range { (b : ℕ) → HasCodes (slice_index_or codes.table.now b []) }
 
@@ -169,8 +189,11 @@ fn fill_coded(codes: Codes<'_>, cells: Region, out: &mut [i16]) -> Result<(), Pi
     ensures far { IfErr result (HasOut (patch_height codes.entry.patch.now) codes.entry.step
         (table_code codes.entry.inside codes.entry.table.now) codes.entry.inside cells (length out.old)) }
 {
+    let mut cell = first_of(cells);
     for k in 0..out.len() {
-        match height_at(codes, cell_at(cells, k)) {
+        let here = cell;
+        cell = next_cell(cells, here);
+        match height_at(codes, here) {
             Ok(height) => out[k] = height,
             Err(fault) => return Err(fault),
         }
@@ -209,8 +232,10 @@ fn fill_plain(bytes: &[u8], inside: Region, cells: Region, out: &mut [i16])
     requires places { length out.old ≡ columns cells * rows cells }
     ensures { IsPieceUpTo (length out.new) (within inside (plain_height bytes.now inside)) cells out.new }
 {
+    let mut cell = first_of(cells);
     for k in 0..out.len() {
-        out[k] = plain_at(bytes, inside, cell_at(cells, k));
+        out[k] = plain_at(bytes, inside, cell);
+        cell = next_cell(cells, cell);
     }
 }
 
@@ -245,8 +270,10 @@ fn word_piece(
     if out.is_empty() {
         return Ok(());
     }
+    let predicted = predict_block(patch);
     let codes = Codes {
         patch,
+        predicted: &predicted,
         table: &table,
         inside,
         step,

@@ -93,7 +93,7 @@ patch_is H patch rows a b al ah bl bh =
 Agree : (C D : ℤ → ℤ → ℤ) (i0 j0 : ℤ) → Type 0
 Agree C D i0 j0 = (a b : ℤ) → i0 ≤ℤ a → a ≤ℤ (i0 +ℤ pos 6) → j0 ≤ℤ b → b ≤ℤ (j0 +ℤ pos 6) → C a b ≡ D a b
 
-weighted_same : (p q r s p' q' r' s' : ℤ) → p ≡ p' → q ≡ q' → r ≡ r' → s ≡ s' → weighted p q r s ≡ weighted p' q' r' s'
+pub weighted_same : (p q r s p' q' r' s' : ℤ) → p ≡ p' → q ≡ q' → r ≡ r' → s ≡ s' → weighted p q r s ≡ weighted p' q' r' s'
 weighted_same p q r s p' q' r' s' e f g h = cc
 
 row_same : (C D : ℤ → ℤ → ℤ) (i0 j0 a b : ℤ) → Agree C D i0 j0 → (i0 +ℤ pos 1) ≤ℤ a → a ≤ℤ (i0 +ℤ pos 4) → j0 ≤ℤ b → b ≤ℤ (j0 +ℤ pos 6) → row_sum C a b ≡ row_sum D a b

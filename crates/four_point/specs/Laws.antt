@@ -46,7 +46,8 @@ WithinHalfIsNear =
 -- and the nearest height of 16 bits lies within half a step too
 abbrev pub BroughtWithinHalf : Type 0
 BroughtWithinHalf =
-    (step : ℕ) (height value : ℤ) → FitsSigned w16 height → IsWithinHalf step height value → IsWithinHalf step height (brought value)
+    (step : ℕ) (height value : ℤ) → FitsSigned w16 height → IsWithinHalf step height value
+    → IsWithinHalf step height (brought value)
 
 -- the nearest height of 16 bits is one, and is the number itself where that is one
 abbrev pub BroughtFits : Type 0
@@ -62,5 +63,5 @@ CodeByOne = (coarser : ℤ → ℤ → ℤ) (i j height : ℤ) → code_of coars
 -- the code of a height of 16 bits is below 2^17 in size
 abbrev pub CodeSize : Type 0
 CodeSize =
-    (coarser : ℤ → ℤ → ℤ) (step : ℕ) (i j height : ℤ) → ((a b : ℤ) → FitsSigned w16 (coarser a b)) → FitsSigned w16 height
-    → IsStep step → unsigned_abs (code_of coarser step i j height) < 2 ^ 17
+    (coarser : ℤ → ℤ → ℤ) (step : ℕ) (i j height : ℤ) → ((a b : ℤ) → FitsSigned w16 (coarser a b))
+    → FitsSigned w16 height → IsStep step → unsigned_abs (code_of coarser step i j height) < 2 ^ 17

@@ -12,7 +12,8 @@ table_height rows (negsuc a) b = pos 0
 unfoldable pub patch_height : Patch → ℤ → ℤ → ℤ
 patch_height patch a b = table_height patch.h (a -ℤ patch.i0) (b -ℤ patch.j0)
 
--- a coarser column or row, `before` more before it and `after` more after it lie in the patch that begins at `first`, and near enough to zero
+-- a coarser column or row, `before` more before it and `after` more after it lie in the patch that begins at `first`,
+-- and near enough to zero
 pub record IsCovered (first : ℤ) (before after : ℕ) (place : ℤ) : Type 0 where
   pub low : (first +ℤ pos before) ≤ℤ place
   pub high : (place +ℤ pos after) ≤ℤ (first +ℤ pos 6)
@@ -33,3 +34,10 @@ pub record IsAtMost (n : ℕ) (z : ℤ) : Type 0 where
 pub record IsPlace (place : ℤ) : Type 0 where
   pub low : neg_ℤ (pos (2 ^ 29)) ≤ℤ place
   pub high : place ≤ℤ pos (2 ^ 29)
+
+-- the seven columns from i0 on and the seven rows from j0 on lie so
+pub record IsPatchPlace (i0 j0 : ℤ) : Type 0 where
+  pub column : IsPlace i0
+  pub last_column : IsPlace (i0 +ℤ pos 6)
+  pub row : IsPlace j0
+  pub last_row : IsPlace (j0 +ℤ pos 6)

@@ -12,11 +12,14 @@ row_sum coarser a b = weighted (coarser (a -ℤ pos 1) b) (coarser a b) (coarser
 
 -- the weighted sum of the coarser heights at rows b - 1 to b + 2 of column a
 unfoldable pub column_sum : (ℤ → ℤ → ℤ) → ℤ → ℤ → ℤ
-column_sum coarser a b = weighted (coarser a (b -ℤ pos 1)) (coarser a b) (coarser a (b +ℤ pos 1)) (coarser a (b +ℤ pos 2))
+column_sum coarser a b =
+    weighted (coarser a (b -ℤ pos 1)) (coarser a b) (coarser a (b +ℤ pos 1)) (coarser a (b +ℤ pos 2))
 
 -- the sum of the sixteen coarser heights round a place, each by the product of its two weights
 unfoldable pub square_sum : (ℤ → ℤ → ℤ) → ℤ → ℤ → ℤ
-square_sum coarser a b = weighted (row_sum coarser a (b -ℤ pos 1)) (row_sum coarser a b) (row_sum coarser a (b +ℤ pos 1)) (row_sum coarser a (b +ℤ pos 2))
+square_sum coarser a b =
+    weighted (row_sum coarser a (b -ℤ pos 1)) (row_sum coarser a b)
+    (row_sum coarser a (b +ℤ pos 1)) (row_sum coarser a (b +ℤ pos 2))
 
 -- the prediction at the cell with these remainders and halves of its column and row
 unfoldable pub predicted : (ℤ → ℤ → ℤ) → ℕ → ℕ → ℤ → ℤ → ℤ

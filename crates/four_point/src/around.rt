@@ -1,7 +1,7 @@
 //! Patches of coarser heights, from whatever holds them.
 
 ghost use Rattle.std.specs.Prelude.{◌≡◌, ◌<◌, ℕ, ℤ, pos, ◌+ℤ◌, slice_index_or};
-ghost use Rattle.four_point.specs.Patches.{patch_height, IsOfBlock, IsPlace};
+ghost use Rattle.four_point.specs.Patches.{patch_height, IsOfBlock, IsPlace, IsPatchPlace};
 ghost use Rattle.four_point.specs.Prediction.{prediction};
 
 use crate::patch::Patch;
@@ -40,10 +40,7 @@ fn row_around<H: Heights>(heights: &H, i0: i32, b: i32) -> [i16; 7]
 
 /// The patch of coarser heights that begins at column `i0` and row `j0`.
 pub fn patch_around<H: Heights>(heights: &H, i0: i32, j0: i32) -> Patch
-    requires column { IsPlace i0 }
-    requires last_column { IsPlace (i0 +ℤ pos 6) }
-    requires row { IsPlace j0 }
-    requires last_row { IsPlace (j0 +ℤ pos 6) }
+    requires { IsPatchPlace i0 j0 }
 
     // It has its place, and predicts what the heights predict.
     ensures column { result.i0 ≡ i0 }

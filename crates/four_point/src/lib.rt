@@ -9,12 +9,14 @@
 #![tactic(auto)]
 
 mod around;
+mod block;
 mod laws;
 mod patch;
 mod steps;
 mod sums;
 
 pub use around::{Heights, patch_around};
+pub use block::{BlockPredictions, predict_block};
 pub use laws::{
     brought_heights, code_by_one, code_size, even_residual, predictions, residual_size,
     values_are_near,

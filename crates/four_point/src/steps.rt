@@ -25,8 +25,8 @@ pub fn code_by(patch: &Patch, i: i32, j: i32, height: i16, step: u8) -> i32
     steps_in(residual(patch, i, j, height), step)
 }
 
-// How many steps a distance has, to the nearest whole number.
-fn steps_in(distance: i32, step: u8) -> i32
+/// How many steps a distance has, to the nearest whole number.
+pub(crate) fn steps_in(distance: i32, step: u8) -> i32
     requires distance { IsAtMost 100000 distance }
     requires step { IsStep step }
     ensures value { result ≡ floor_div (distance +ℤ pos ((step - 1) / 2)) step }

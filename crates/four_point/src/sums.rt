@@ -17,9 +17,9 @@ pub(crate) fn height_of(patch: &Patch, a: i32, b: i32) -> i32
     i32::from(patch.h[(b - patch.j0) as usize][(a - patch.i0) as usize])
 }
 
-// Four values by the weights -1, 9, 9 and -1.
+/// Four values by the weights -1, 9, 9 and -1.
 #[tactic(auto, unfolding(crate::specs::Prediction::weighted))]
-fn weighted(before: i32, near: i32, far: i32, beyond: i32) -> i32
+pub(crate) fn weighted(before: i32, near: i32, far: i32, beyond: i32) -> i32
     requires before { IsAtMost 655360 before }
     requires near { IsAtMost 655360 near }
     requires far { IsAtMost 655360 far }

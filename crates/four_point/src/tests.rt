@@ -1,4 +1,7 @@
-use crate::{Heights, Patch, bring, code_by, patch_around, predict, residual, restore, value_by};
+use crate::{
+    Heights, Patch, bring, code_by, patch_around, predict, predict_block, residual, restore,
+    value_by,
+};
 
 const LOW: i16 = -32767;
 
@@ -85,6 +88,33 @@ fn heights_by_steps(rt: HostRuntime) {
     assert_eq!(rt;
         (bring(-32769), bring(100000), bring(-7)),
         (-32768, 32767, -7)
+    );
+}
+
+#[test]
+fn a_block_is_predicted_as_its_cells(rt: HostRuntime) {
+    let h = [
+        [3, -141, 592, 6535, -8979, 32, HIGH],
+        [LOW, 38, 46, 26, -433, 8, 3],
+        [27, -950, 28841, HIGH, 97, -16, 9],
+        [39, 93, 7510, LOW, 5820, -97, 494],
+        [4592, -307, 8, 16, 40, 628, 6],
+        [HIGH, LOW, HIGH, LOW, HIGH, LOW, HIGH],
+        [20, 89, -98, 62, 80, -34, 825],
+    ];
+    let patch = Patch { i0: 3, j0: -5, h };
+    let block = predict_block(&patch);
+    for n in 0..64 {
+        let (i, j) = (8 + n % 8, n / 8 - 8);
+        assert_eq!(rt; block.predict(i, j), predict(&patch, i, j));
+    }
+    assert_eq!(rt;
+        block.code_by(9, -7, 1000, 3),
+        code_by(&patch, 9, -7, 1000, 3)
+    );
+    assert_eq!(rt;
+        block.value_by(9, -7, -200, 3),
+        value_by(&patch, 9, -7, -200, 3)
     );
 }
 

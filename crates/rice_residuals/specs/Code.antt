@@ -12,11 +12,26 @@ abbrev pub folded : ℤ → ℕ
 folded (pos n) = 2 * n
 folded (negsuc n) = 2 * n + 1
 
--- the code of a folded residual u: as many ones as 2^r goes into u, a zero and the low r bits of u, where those are fewer
--- than 32 ones; else 32 ones and u in 18 bits
+-- how many ones the long form begins with, and how many bits its number has behind them; all folded residuals are
+-- below the limit
+abbrev pub long_ones : ℕ
+long_ones = 32
+
+abbrev pub number_bits : ℕ
+number_bits = 18
+
+abbrev pub long_length : ℕ
+long_length = 50
+
+abbrev pub folded_limit : ℕ
+folded_limit = 262144
+
+-- the code of a folded residual u: as many ones as 2^r goes into u, a zero and the low r bits of u, where those are
+-- fewer than 32 ones; else 32 ones and u in 18 bits
 unfoldable pub code : ℕ → ℕ → List Bool
 code r u =
-    if nat_lt (u / 2 ^ r) 32 then replicate (u / 2 ^ r) true ++ false ∷ low_bits r u else replicate 32 true ++ low_bits 18 u
+    if nat_lt (u / 2 ^ r) long_ones then replicate (u / 2 ^ r) true ++ false ∷ low_bits r u
+    else replicate long_ones true ++ low_bits number_bits u
 
 -- the code of a residual
 abbrev pub residual_code : ℕ → ℤ → List Bool

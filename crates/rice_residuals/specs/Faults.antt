@@ -2,23 +2,23 @@
 use Rattle.std.specs.Prelude.{◌≡◌, ◌≢◌, ◌⊎◌, ℕ, ◌+◌, ◌-◌, ◌*◌, ◌/◌, ◌^◌, ◌<◌, ◌≤◌, ℤ, Bool, true, false, List, [], ◌∷◌, ◌++◌, length, replicate, if◌then◌else◌, nat_lt}
 use Rattle.rice_residuals.specs.Bits.{low_bits, bits_of_bytes}
 use Rattle.std.specs.List.{All}
-use Rattle.rice_residuals.specs.Code.{IsResidual, codes}
+use Rattle.rice_residuals.specs.Code.{IsResidual, long_ones, number_bits, folded_limit, codes}
 use Rattle.rice_residuals.specs.Word.{OpensWith, word_bits}
 use Rattle.rice_residuals.specs.declared.fault.BlockFault.{BlockFault}
 use Rattle.rice_residuals.specs.declared.fault.BlockFault.TheVariants.{CutShort, LongForm, TooWide, BadPadding, Excess}
 
 -- ones, a zero where they are fewer than 32, and further bits
 unfoldable pub form : ℕ → List Bool → List Bool
-form ones low = replicate ones true ++ (if nat_lt ones 32 then false ∷ low else low)
+form ones low = replicate ones true ++ (if nat_lt ones long_ones then false ∷ low else low)
 
 -- how many bits stand in a code behind so many ones and their zero
 unfoldable pub low_length : ℕ → ℕ → ℕ
-low_length r ones = if nat_lt ones 32 then r else 18
+low_length r ones = if nat_lt ones long_ones then r else number_bits
 
 -- the bits end inside a code: some more, at least one, would make a whole one
 pub record IsCut (r : ℕ) (rest : List Bool) : Type 0 where
   pub ones : ℕ
-  pub few : ones ≤ 32
+  pub few : ones ≤ long_ones
   pub low : List Bool
   pub whole : length low ≡ low_length r ones
   pub missing : List Bool
@@ -28,22 +28,23 @@ pub record IsCut (r : ℕ) (rest : List Bool) : Type 0 where
 -- the bits begin with the long form of a number that has the short one
 pub record IsLongForm (r : ℕ) (rest : List Bool) : Type 0 where
   pub folded : ℕ
-  pub fits : folded < 262144
-  pub small : folded / 2 ^ r < 32
+  pub fits : folded < folded_limit
+  pub small : folded / 2 ^ r < long_ones
   pub after : List Bool
-  pub spelled : rest ≡ replicate 32 true ++ (low_bits 18 folded ++ after)
+  pub spelled : rest ≡ replicate long_ones true ++ (low_bits number_bits folded ++ after)
 
 -- the bits begin with the short form of a number that no residual has
 pub record IsTooWide (r : ℕ) (rest : List Bool) : Type 0 where
   pub ones : ℕ
-  pub few : ones < 32
+  pub few : ones < long_ones
   pub low : ℕ
   pub below : low < 2 ^ r
-  pub wide : 262144 ≤ ones * 2 ^ r + low
+  pub wide : folded_limit ≤ ones * 2 ^ r + low
   pub after : List Bool
   pub spelled : rest ≡ replicate ones true ++ false ∷ (low_bits r low ++ after)
 
--- behind the last code, which ends at the place, the bit at the place bad is the first one, in the byte of the code's last bit
+-- behind the last code, which ends at the place, the bit at the place bad is the first one, in the byte of the code's
+-- last bit
 pub record IsBadPadding (bad place : ℕ) (rest : List Bool) : Type 0 where
   pub zeros : ℕ
   pub first : bad ≡ place + zeros

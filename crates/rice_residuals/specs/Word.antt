@@ -31,7 +31,11 @@ parameters = range_with_len 0 16
 -- the first parameter whose word has no more bits than that of any other
 unfoldable pub best_parameter : List ℤ → ℕ
 best_parameter residuals =
-    unwrap_or (find (λ r. list_all (λ s. nat_le (length (word_bits r residuals)) (length (word_bits s residuals))) parameters) parameters) 0
+    unwrap_or
+    (find
+    (λ r. list_all (λ s. nat_le (length (word_bits r residuals)) (length (word_bits s residuals))) parameters)
+    parameters)
+    0
 
 -- the word by the parameter of fewest bits, the least such parameter
 unfoldable pub canonical_word : List ℤ → List ℕ

@@ -1,19 +1,19 @@
 ghost use Rattle.std.specs.Prelude.{◌≡◌, ◌↔◌, ℕ, ◌≤◌, ◌<◌, ◌^◌, ◌+◌, ◌-◌, ◌*◌, ◌/◌, ◌%◌, ℤ, List, ◌++◌, ◌∷◌, true, false, length, replicate, IfOk, IfErr, OnOk, IsOkAnd, Err};
 ghost use Rattle.rice_residuals.specs.Bits.{low_bits};
-ghost use Rattle.rice_residuals.specs.Code.{code, codes};
+ghost use Rattle.rice_residuals.specs.Code.{long_ones, folded_limit, code, codes};
 ghost use Rattle.rice_residuals.specs.Word.{IsBlockWord, IsWordOf};
 ghost use Rattle.rice_residuals.specs.List.{residual_list};
 ghost use Rattle.rice_residuals.specs.Faults.{HasCodeFault, HasCodesFault, HasEndFault, HasFault, IsPadding};
 
 use crate::fault::BlockFault;
-use crate::folding::unfold;
+use crate::folding::{FOLDED_LIMIT, LONG_ONES, NUMBER_BITS, unfold};
 use crate::reader::BitReader;
 use crate::residuals::Residuals;
 
 // The number of a high part and `count` low bits.
 #[inline]
 fn joined(high: u32, count: u8, low: u32) -> u32
-    requires high { high < 32 }
+    requires high { high < long_ones }
     requires count { count < 16 }
     requires low { low < 2 ^ count }
     ensures { result ≡ high * 2 ^ count + low }
@@ -25,7 +25,7 @@ fn joined(high: u32, count: u8, low: u32) -> u32
 #[inline]
 fn read_code(reader: &mut BitReader<'_>, parameter: u8) -> Result<u32, BlockFault>
     requires { parameter < 16 }
-    ensures below { IfOk result (λ u. u < 262144) }
+    ensures below { IfOk result (λ u. u < folded_limit) }
     ensures code { IfOk result (λ u. reader.old.left ≡ code parameter u ++ reader.new.left) }
     ensures end { OnOk result (reader.new.place + length reader.new.left ≡ reader.old.place + length reader.old.left) }
     ensures fault { IfErr result (λ fault. HasCodeFault parameter reader.old.place reader.old.left fault) }
@@ -34,11 +34,11 @@ fn read_code(reader: &mut BitReader<'_>, parameter: u8) -> Result<u32, BlockFaul
     let Some(ones) = reader.take_ones() else {
         return Err(BlockFault::CutShort { bit: reader.end() });
     };
-    if ones == 32 {
-        let Some(long) = reader.take(18) else {
+    if ones == LONG_ONES {
+        let Some(long) = reader.take(NUMBER_BITS) else {
             return Err(BlockFault::CutShort { bit: reader.end() });
         };
-        if long >> parameter < 32 {
+        if long >> parameter < LONG_ONES {
             return Err(BlockFault::LongForm { bit });
         }
         return Ok(long);
@@ -47,7 +47,7 @@ fn read_code(reader: &mut BitReader<'_>, parameter: u8) -> Result<u32, BlockFaul
         return Err(BlockFault::CutShort { bit: reader.end() });
     };
     let short = joined(ones, parameter, low);
-    if short >= 1 << 18 {
+    if short >= FOLDED_LIMIT {
         return Err(BlockFault::TooWide { bit });
     }
     Ok(short)

@@ -1,11 +1,11 @@
 ghost use Rattle.std.specs.Prelude.{◌≡◌, ℕ, ◌≤◌, ◌<◌, ◌^◌, ◌+◌, ◌-◌, ◌*◌, List, ◌++◌, length, IfOk, OnOk, OnErr};
 ghost use Rattle.std.specs.List.{All};
-ghost use Rattle.rice_residuals.specs.Code.{IsResidual, code, codes};
+ghost use Rattle.rice_residuals.specs.Code.{IsResidual, long_ones, long_length, folded_limit, code, codes};
 ghost use Rattle.rice_residuals.specs.Word.{best_parameter, canonical_word};
 ghost use Rattle.rice_residuals.specs.List.{residual_list};
 
 use crate::fault::NoMemory;
-use crate::folding::fold;
+use crate::folding::{LONG_LENGTH, LONG_ONES, NUMBER_BITS, fold};
 use crate::register::low_of;
 use crate::residuals::Residuals;
 use crate::writer::BitWriter;
@@ -16,13 +16,13 @@ use std::alloc::Global;
 fn code_length(folded: u32, parameter: u8) -> u32
     requires { parameter < 16 }
     ensures length { result ≡ length (code parameter folded) }
-    ensures few { result ≤ 50 }
+    ensures few { result ≤ long_length }
 {
     let ones = folded >> parameter;
-    if ones < 32 {
+    if ones < LONG_ONES {
         ones + 1 + u32::from(parameter)
     } else {
-        50
+        LONG_LENGTH
     }
 }
 
@@ -67,7 +67,7 @@ fn parameter_of(residuals: &[i32]) -> u8
 // So many ones and a zero behind them.
 #[inline]
 fn run_of_ones(ones: u32) -> u32
-    requires { ones < 32 }
+    requires { ones < long_ones }
     ensures value { result ≡ (2 ^ ones - 1) * 2 }
     ensures below { result < 2 ^ (ones + 1) }
 {
@@ -88,14 +88,14 @@ fn short_form(ones: u32, parameter: u8, low: u32) -> u32
 // Puts the code of a folded residual.
 #[inline]
 fn write_code(writer: &mut BitWriter, folded: u32, parameter: u8) -> Result<(), NoMemory>
-    requires folded { folded < 262144 }
+    requires folded { folded < folded_limit }
     requires parameter { parameter < 16 }
     ensures { OnOk result (writer.new ≡ writer.old ++ code parameter folded) }
 {
     let ones = folded >> parameter;
-    if ones >= 32 {
-        writer.push(u32::MAX, 32)?;
-        writer.push(folded, 18)?;
+    if ones >= LONG_ONES {
+        writer.push(u32::MAX, LONG_ONES as u8)?;
+        writer.push(folded, NUMBER_BITS)?;
         return Ok(());
     }
     let low = low_of(u64::from(folded), u32::from(parameter));

@@ -1,7 +1,9 @@
 ghost use Rattle.std.specs.Prelude.{◌≡◌, ℕ, ◌≤◌, ◌<◌, ◌+◌, ◌-◌, ◌*◌, ◌^◌, ◌↔◌, true, false, ◌∷◌, ◌++◌, length, drop, replicate, IsNone, IfSome, IfNone, OnSome};
 ghost use Rattle.rice_residuals.specs.Bits.{low_bits, bits_of_bytes};
+ghost use Rattle.rice_residuals.specs.Code.{long_ones};
 ghost use Rattle.rice_residuals.specs.Faults.{form, low_length};
 
+use crate::folding::LONG_ONES;
 use crate::register::{Register, low_of, ready};
 use std::marker::Model;
 
@@ -81,17 +83,17 @@ impl BitReader<'_> {
     #[inline]
     pub(crate) fn take_ones(&mut self) -> Option<u32>
         ensures none { IfNone result (self.old.left ≡ replicate (length self.old.left) true) }
-        ensures few { IfNone result (length self.old.left < 32) }
+        ensures few { IfNone result (length self.old.left < long_ones) }
         ensures unchanged { IfNone result (self.new ≡ self.old) }
 
-        ensures ones { IfSome result (λ ones. ones ≤ 32) }
+        ensures ones { IfSome result (λ ones. ones ≤ long_ones) }
         ensures bits { IfSome result (λ ones. self.old.left ≡ form ones self.new.left) }
         ensures end { IfSome result (λ _. self.new.place + length self.new.left ≡
             self.old.place + length self.old.left) }
     {
-        let register = ready(self.bytes, self.register, 32);
+        let register = ready(self.bytes, self.register, LONG_ONES);
         let ones = ones_of(register.bits, register.held);
-        if ones < 32 {
+        if ones < LONG_ONES {
             if ones == register.held {
                 return None;
             }
@@ -99,9 +101,9 @@ impl BitReader<'_> {
             self.register = Register { held, ..register };
             return Some(ones);
         }
-        let held = register.held - 32;
+        let held = register.held - LONG_ONES;
         self.register = Register { held, ..register };
-        Some(32)
+        Some(LONG_ONES)
     }
 }
 
@@ -109,14 +111,14 @@ impl BitReader<'_> {
 #[inline]
 fn ones_of(bits: u64, held: u32) -> u32
     requires { held < 64 }
-    ensures few { result ≤ 32 }
+    ensures few { result ≤ long_ones }
     ensures held { result ≤ held }
     ensures run { low_bits held bits ≡ replicate result true ++ low_bits (held - result) bits }
-    ensures zero { result < 32 → result < held → low_bits (held - result) bits ≡
+    ensures zero { result < long_ones → result < held → low_bits (held - result) bits ≡
         false ∷ low_bits (held - result - 1) bits }
 {
     if held == 0 {
         return 0;
     }
-    (bits << (64 - held)).leading_ones().min(32)
+    (bits << (64 - held)).leading_ones().min(LONG_ONES)
 }

@@ -1,5 +1,5 @@
 -- Codes over a patch are the codes over the heights that it was filled from.
-use Rattle.std.proofs.Common.{◌≡◌, ℕ, ◌+◌, ◌-◌, ◌/◌, ◌%◌, ◌<◌, ℤ, pos, ◌+ℤ◌, ◌-ℤ◌, ap, arith}
+use Rattle.std.proofs.Common.{◌≡◌, ℕ, ◌+◌, ◌-◌, ◌/◌, ◌%◌, ◌<◌, ℤ, pos, ◌+ℤ◌, ◌-ℤ◌, ap, subst, arith}
 use Rattle.std.specs.Int.{w32}
 use Rattle.std.proofs.lemmas.Int.{ints}
 use mir.Val.{SFits}
@@ -41,3 +41,11 @@ patch_values C F step cells patch are place same =
     (λ a b l m.
     code_same (patch_height patch) C step (pos (cells.x0 + a)) (pos (cells.y0 + b)) (F (pos (cells.x0 + a)) (pos (cells.y0 + b)))
     (same (pos (cells.x0 + a)) (pos (cells.y0 + b)) (of_block patch.i0 cells.x0 a are.block_column place.column (omega arith)) (of_block patch.j0 cells.y0 b are.block_row place.row (omega arith))))
+
+-- what holds of a patch holds of one that is the same
+pub place_of : (patch other : Patch) (cells : Cells) → patch ≡ other → IsPatchOf cells patch → IsPatchOf cells other
+place_of patch other cells e place = subst (IsPatchOf cells) e place
+
+pub predictions_of : (patch other : Patch) (C : ℤ → ℤ → ℤ) → patch ≡ other → ((i j : ℤ) → IsOfBlock patch.i0 i → IsOfBlock patch.j0 j → prediction (patch_height patch) i j ≡ prediction C i j) → (i j : ℤ) → IsOfBlock other.i0 i → IsOfBlock other.j0 j → prediction (patch_height other) i j ≡ prediction C i j
+predictions_of patch other C e same =
+    subst (λ (p : Patch). (i j : ℤ) → IsOfBlock p.i0 i → IsOfBlock p.j0 j → prediction (patch_height p) i j ≡ prediction C i j) e same

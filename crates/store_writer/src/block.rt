@@ -13,7 +13,7 @@ ghost use Rattle.store_writer.specs.Cells.{region_of, AreCells, IsPatchOf};
 
 use crate::bytes::{append, append_entry};
 use crate::cells::Cells;
-use four_point::{Heights, Patch, code_by, patch_around};
+use four_point::{BlockPredictions, Heights, Patch, patch_around, predict_block};
 use rice_residuals::{NoMemory, Residuals, write_block};
 use std::alloc::Global;
 
@@ -25,59 +25,70 @@ pub(crate) fn is_coded(i: u32, j: u32) -> bool
     !(i % 2 == 0 && j % 2 == 0)
 }
 
-/// The code of a cell over a patch of coarser heights.
-pub(crate) fn code_at<F: Heights>(patch: &Patch, finer: &F, i: u32, j: u32, step: u8) -> i32
-    requires column { IsOfBlock patch.now.i0 (pos i) }
-    requires row { IsOfBlock patch.now.j0 (pos j) }
+/// The code of a cell over the predictions of its block.
+pub(crate) fn code_at<F: Heights>(
+    predicted: &BlockPredictions<'_>,
+    finer: &F,
+    i: u32,
+    j: u32,
+    step: u8,
+) -> i32
+    requires column { IsOfBlock predicted.now.patch.now.i0 (pos i) }
+    requires row { IsOfBlock predicted.now.patch.now.j0 (pos j) }
     requires near_column { i ≤ 2 ^ 27 }
     requires near_row { j ≤ 2 ^ 27 }
     requires step { IsStep step }
-    ensures value { result ≡ code_over (patch_height patch.now) (F.heights finer.now) step (pos i) (pos j) }
+    ensures value { result ≡ code_over (patch_height predicted.now.patch.now) (F.heights finer.now) step (pos i) (pos j) }
     ensures size { IsResidual result }
 {
     let (column, row) = (i as i32, j as i32);
-    code_by(patch, column, row, finer.height(column, row), step)
+    predicted.code_by(column, row, finer.height(column, row), step)
 }
 
 // Puts the codes of row `j` of a block's cells.
 fn push_row<F: Heights>(
     codes: &mut Residuals,
-    patch: &Patch,
+    predicted: &BlockPredictions<'_>,
     finer: &F,
     cells: Cells,
     j: u32,
     step: u8,
 )
     requires cells { AreCells cells }
-    requires patch { IsPatchOf cells patch.now }
+    requires patch { IsPatchOf cells predicted.now.patch.now }
     requires first_row { cells.y0 ≤ j }
     requires last_row { j < cells.y0 + cells.rows }
     requires step { IsStep step }
     requires room { codes.old.count + cells.columns ≤ 64 }
     ensures few { codes.new.count ≤ codes.old.count + cells.columns }
     ensures list { residual_list codes.new
-        ≡ residual_list codes.old ++ row_codes (code_over (patch_height patch.now) (F.heights finer.now) step)
+        ≡ residual_list codes.old ++ row_codes (code_over (patch_height predicted.now.patch.now) (F.heights finer.now) step)
         (pos cells.x0) (pos j) cells.columns }
 {
     for a in 0..cells.columns {
         let i = cells.x0 + a;
         if is_coded(i, j) {
-            codes.push(code_at(patch, finer, i, j, step));
+            codes.push(code_at(predicted, finer, i, j, step));
         }
     }
 }
 
 // The codes of a block's cells, row by row.
-fn codes_of<F: Heights>(patch: &Patch, finer: &F, cells: Cells, step: u8) -> Residuals
+fn codes_of<F: Heights>(
+    predicted: &BlockPredictions<'_>,
+    finer: &F,
+    cells: Cells,
+    step: u8,
+) -> Residuals
     requires cells { AreCells cells }
-    requires patch { IsPatchOf cells patch.now }
+    requires patch { IsPatchOf cells predicted.now.patch.now }
     requires step { IsStep step }
     ensures { residual_list result
-        ≡ coded_values (code_over (patch_height patch.now) (F.heights finer.now) step) (region_of cells) }
+        ≡ coded_values (code_over (patch_height predicted.now.patch.now) (F.heights finer.now) step) (region_of cells) }
 {
     let mut codes = Residuals::none();
     for b in 0..cells.rows {
-        push_row(&mut codes, patch, finer, cells, cells.y0 + b, step);
+        push_row(&mut codes, predicted, finer, cells, cells.y0 + b, step);
     }
     codes
 }
@@ -111,7 +122,8 @@ pub(crate) fn append_word<F: Heights, C: Heights>(
         ≡ out.old.items ++ word_entry (C.heights coarser.now) (F.heights finer.now) step (region_of cells)) }
 {
     let patch = patch_of(coarser, cells);
-    let codes = codes_of(&patch, finer, cells, step);
+    let predicted = predict_block(&patch);
+    let codes = codes_of(&predicted, finer, cells, step);
     let word = write_block(alloc, &codes)?;
     rice_residuals::laws::canonical_words_are_short();
     append_entry(out, word.as_slice())

@@ -13,7 +13,7 @@ ghost use Rattle.store_writer.specs.Tables.{restored_in, table_place, table_heig
 use crate::block::{code_at, is_coded, patch_of};
 use crate::cells::{Cells, block_count, blocks_across, cells_of_block};
 use crate::level::LevelOf;
-use four_point::{Heights, Patch, bring, value_by};
+use four_point::{BlockPredictions, Heights, bring, predict_block};
 use height_pyramid::Grid;
 use rice_residuals::NoMemory;
 use std::alloc::Global;
@@ -70,22 +70,28 @@ impl Heights for Table {
 }
 
 // The height of a cell that its code gives.
-fn coded_height<F: Heights>(patch: &Patch, finer: &F, i: u32, j: u32, step: u8) -> i16
-    requires column { IsOfBlock patch.now.i0 (pos i) }
-    requires row { IsOfBlock patch.now.j0 (pos j) }
+fn coded_height<F: Heights>(
+    predicted: &BlockPredictions<'_>,
+    finer: &F,
+    i: u32,
+    j: u32,
+    step: u8,
+) -> i16
+    requires column { IsOfBlock predicted.now.patch.now.i0 (pos i) }
+    requires row { IsOfBlock predicted.now.patch.now.j0 (pos j) }
     requires near_column { i ≤ 2 ^ 27 }
     requires near_row { j ≤ 2 ^ 27 }
     requires step { IsStep step }
-    ensures { result ≡ brought (value_of (patch_height patch.now) step (pos i) (pos j)
-        (code_over (patch_height patch.now) (F.heights finer.now) step (pos i) (pos j))) }
+    ensures { result ≡ brought (value_of (patch_height predicted.now.patch.now) step (pos i) (pos j)
+        (code_over (patch_height predicted.now.patch.now) (F.heights finer.now) step (pos i) (pos j))) }
 {
-    let code = code_at(patch, finer, i, j, step);
-    bring(value_by(patch, i as i32, j as i32, code, step))
+    let code = code_at(predicted, finer, i, j, step);
+    bring(predicted.value_by(i as i32, j as i32, code, step))
 }
 
 // The restored height of a cell of a block, and 0 where the cell lies outside the terrain.
 fn restored_at<F: Heights, C: Heights>(
-    patch: &Patch,
+    predicted: &BlockPredictions<'_>,
     finer: &F,
     coarser: &C,
     cells: Cells,
@@ -94,9 +100,9 @@ fn restored_at<F: Heights, C: Heights>(
     step: u8,
 ) -> i16
     requires cells { AreCells cells }
-    requires patch { IsPatchOf cells patch.now }
-    requires predictions { (i j : ℤ) → IsOfBlock patch.now.i0 i → IsOfBlock patch.now.j0 j
-        → prediction (patch_height patch.now) i j ≡ prediction (C.heights coarser.now) i j }
+    requires patch { IsPatchOf cells predicted.now.patch.now }
+    requires predictions { (i j : ℤ) → IsOfBlock predicted.now.patch.now.i0 i → IsOfBlock predicted.now.patch.now.j0 j
+        → prediction (patch_height predicted.now.patch.now) i j ≡ prediction (C.heights coarser.now) i j }
     requires first_column { cells.x0 ≤ i }
     requires last_column { i < cells.x0 + 8 }
     requires first_row { cells.y0 ≤ j }
@@ -111,7 +117,7 @@ fn restored_at<F: Heights, C: Heights>(
     if !is_coded(i, j) {
         return coarser.height((i / 2) as i32, (j / 2) as i32);
     }
-    coded_height(patch, finer, i, j, step)
+    coded_height(predicted, finer, i, j, step)
 }
 
 // Puts a height behind those that are there.
@@ -140,9 +146,13 @@ fn append_restored<F: Heights, C: Heights>(
         cells.x0 cells.y0) }
 {
     let patch = patch_of(coarser, cells);
+    let predicted = predict_block(&patch);
     for n in 0..64 {
         let (i, j) = (cells.x0 + n % 8, cells.y0 + n / 8);
-        push_height(out, restored_at(&patch, finer, coarser, cells, i, j, step))?;
+        push_height(
+            out,
+            restored_at(&predicted, finer, coarser, cells, i, j, step),
+        )?;
     }
     Ok(())
 }

@@ -6,8 +6,13 @@ use mir.Val.{SFits}
 use Rattle.four_point.specs.Patches.{patch_height}
 use Rattle.block_heights.specs.Rows.{table_code}
 use Rattle.block_heights.specs.Pieces.{within, coded_height, column_of, row_of}
-use Rattle.block_heights.proofs.Cells.{piece_more, near_more, near_at}
+use Rattle.block_heights.proofs.Cells.{piece_more, near_more, near_at, cell_inside}
 use Rattle.block_heights.proofs.pieces.fill_coded.Goals as goal
+
+pub next_cell-cell-requires-clause-inside : goal.next_cell-cell-requires-clause-inside
+next_cell-cell-requires-clause-inside c =
+    let same = c.loop-k.auto.out in
+    cell_inside c.args.cells c.loop-k.k c.loop-k.cell.i c.loop-k.cell.j c.requires.cells (omega (arith, c.requires.places)) c.loop-k.invariant.here
 
 pub loop-k-preserved : goal.loop-k-preserved
 loop-k-preserved c =
@@ -18,17 +23,19 @@ loop-k-preserved c =
     let step = c.args.codes.step in
     let code = table_code c.args.codes.inside c.args.codes.table.now in
     let heights = within c.args.codes.inside (coded_height coarser step code) in
-    let cell = c.cell_at in
+    let here = c.loop-k.invariant.here in
+    let cell = c.loop-k.cell in
     let same = c.loop-k.auto.out in
     let inside : k < length c.loop-k.out = omega arith in
     let fits : SFits w16 c.in-Ok.height = search rules in
     record {
+      here = c.next_cell-cell.ensures k here.column here.row;
       heights =
           piece_more k heights cells c.loop-k.out _ inside
-          (to_z-of_z w16 c.in-Ok.height fits ∙ a.height ∙ ap₂ heights cell.ensures.column cell.ensures.row)
+          (to_z-of_z w16 c.in-Ok.height fits ∙ a.height ∙ ap₂ heights here.column here.row)
           c.loop-k.invariant.heights;
       near =
           near_more k coarser step code c.args.codes.inside cells
-          (near_at coarser step code c.args.codes.inside cell.result.i cell.result.j (column_of cells k) (row_of cells k) cell.ensures.column cell.ensures.row a.near)
+          (near_at coarser step code c.args.codes.inside cell.i cell.j (column_of cells k) (row_of cells k) here.column here.row a.near)
           c.loop-k.invariant.near;
     }

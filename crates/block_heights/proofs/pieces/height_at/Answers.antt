@@ -4,6 +4,7 @@ use Rattle.std.proofs.lemmas.Int.{to_z-of_z}
 use Rattle.std.proofs.lemmas.Bool.{false≢true}
 use mir.Val.{SFits, to_z, of_z}
 use Rattle.four_point.specs.Patches.{patch_height, IsOfBlock}
+use Rattle.four_point.specs.declared.patch.Patch.{Patch}
 use Rattle.four_point.specs.Steps.{value_of, brought, IsNear}
 use Rattle.block_heights.specs.Rows.{table_code}
 use Rattle.block_heights.specs.Pieces.{coded_height}
@@ -49,7 +50,8 @@ value_by-value-requires-clause-column c =
     let step = c.args.codes.step in
     let l = lies inside i j (sym e ∙ c.if-not-contains.false) in
     let p = c.requires.patch in
-    subst (IsOfBlock c.args.codes.patch.now.i0) (sym (to_z-of_z w32 i i_fits)) (between c.args.codes.patch.now.i0 inside.x0 inside.x1 i p.first_column p.last_column l.west l.east)
+    subst (λ (p : Patch). IsOfBlock p.i0 (to_z w32 (of_z w32 i))) (sym c.requires.predicted)
+    (subst (IsOfBlock c.args.codes.patch.now.i0) (sym (to_z-of_z w32 i i_fits)) (between c.args.codes.patch.now.i0 inside.x0 inside.x1 i p.first_column p.last_column l.west l.east))
 
 pub value_by-value-requires-clause-row : goal.value_by-value-requires-clause-row
 value_by-value-requires-clause-row c =
@@ -64,7 +66,8 @@ value_by-value-requires-clause-row c =
     let step = c.args.codes.step in
     let l = lies inside i j (sym e ∙ c.if-not-contains.false) in
     let p = c.requires.patch in
-    subst (IsOfBlock c.args.codes.patch.now.j0) (sym (to_z-of_z w32 j j_fits)) (between c.args.codes.patch.now.j0 inside.y0 inside.y1 j p.first_row p.last_row l.north l.south)
+    subst (λ (p : Patch). IsOfBlock p.j0 (to_z w32 (of_z w32 j))) (sym c.requires.predicted)
+    (subst (IsOfBlock c.args.codes.patch.now.j0) (sym (to_z-of_z w32 j j_fits)) (between c.args.codes.patch.now.j0 inside.y0 inside.y1 j p.first_row p.last_row l.north l.south))
 
 pub returns-then-not-is_near-clause-far : goal.returns-then-not-is_near-clause-far
 returns-then-not-is_near-clause-far c =
@@ -81,7 +84,7 @@ returns-then-not-is_near-clause-far c =
     let value_fits : SFits w32 c.value_by-value.result = record { sfits = c.value_by-value.type_inv } in
     let by_code = simp to_z-of_z at c.value_by-value.ensures in
     let value : to_z w32 (of_z w32 c.value_by-value.result) ≡ value_of coarser step i j (code i j) =
-    to_z-of_z w32 c.value_by-value.result value_fits ∙ by_code ∙ ap (value_of coarser step i j) c.code_at-code.ensures.value in (
+    to_z-of_z w32 c.value_by-value.result value_fits ∙ by_code ∙ ap (λ (p : Patch). value_of (patch_height p) step i j c.code_at-code.result) c.requires.predicted ∙ ap (value_of coarser step i j) c.code_at-code.ensures.value in (
       to_z-of_z w32 i i_fits,
       to_z-of_z w32 j j_fits,
       sym e ∙ c.if-not-contains.false,
@@ -104,7 +107,7 @@ returns-clause-near c = λ contained.
     let value_fits : SFits w32 c.value_by-value.result = record { sfits = c.value_by-value.type_inv } in
     let by_code = simp to_z-of_z at c.value_by-value.ensures in
     let value : to_z w32 (of_z w32 c.value_by-value.result) ≡ value_of coarser step i j (code i j) =
-    to_z-of_z w32 c.value_by-value.result value_fits ∙ by_code ∙ ap (value_of coarser step i j) c.code_at-code.ensures.value in
+    to_z-of_z w32 c.value_by-value.result value_fits ∙ by_code ∙ ap (λ (p : Patch). value_of (patch_height p) step i j c.code_at-code.result) c.requires.predicted ∙ ap (value_of coarser step i j) c.code_at-code.ensures.value in
     subst (IsNear step) value (c.is_near.ensures.0 c.if-not-is_near.false)
 
 pub returns-clause-height : goal.returns-clause-height
@@ -122,7 +125,7 @@ returns-clause-height c =
     let value_fits : SFits w32 c.value_by-value.result = record { sfits = c.value_by-value.type_inv } in
     let by_code = simp to_z-of_z at c.value_by-value.ensures in
     let value : to_z w32 (of_z w32 c.value_by-value.result) ≡ value_of coarser step i j (code i j) =
-    to_z-of_z w32 c.value_by-value.result value_fits ∙ by_code ∙ ap (value_of coarser step i j) c.code_at-code.ensures.value in
+    to_z-of_z w32 c.value_by-value.result value_fits ∙ by_code ∙ ap (λ (p : Patch). value_of (patch_height p) step i j c.code_at-code.result) c.requires.predicted ∙ ap (value_of coarser step i j) c.code_at-code.ensures.value in
     same16 c.bring.result c.bring.type_inv
     ∙ c.bring.ensures.value
     ∙ ap brought value

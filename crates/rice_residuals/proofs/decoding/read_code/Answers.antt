@@ -16,25 +16,25 @@ returns-in_default-take-clause-fault c =
     let old = c.args.reader.now in
     let mid = c.take_ones.new.self in
     let none = c.in_default-take.ensures {u = tt} in
-    let form_is : old.left ≡ form 32 mid.left = c.in-Some.ensures.bits ∙ ap (λ (n : ℕ). form n mid.left) c.if-ones-eq32.true in
+    let form_is : old.left ≡ form 32 mid.left = c.in-Some.ensures.bits ∙ ap (λ (n : ℕ). form n mid.left) c.if-ones-eq-LONG_ONES.true in
     (c.end-in_default-take.ensures ∙ end_same old mid c.take.new.self none.unchanged c.in-Some.ensures.end, cut_in_long c.args.parameter old.left mid.left form_is (none.none.0 refl))
 
-pub returns-then-long-parameter-lt32-clause-fault : goal.returns-then-long-parameter-lt32-clause-fault
-returns-then-long-parameter-lt32-clause-fault c =
+pub returns-then-long-parameter-lt-LONG_ONES-clause-fault : goal.returns-then-long-parameter-lt-LONG_ONES-clause-fault
+returns-then-long-parameter-lt-LONG_ONES-clause-fault c =
     let old = c.args.reader.now in
     let mid = c.take_ones.new.self in
-    let form_is : old.left ≡ form 32 mid.left = c.in-Some.ensures.bits ∙ ap (λ (n : ℕ). form n mid.left) c.if-ones-eq32.true in
-    (c.place-bit.ensures, long_of_small c.args.parameter c.in-Some-take.long old.left mid.left c.take.new.self.left form_is c.in-Some-take.ensures.bits c.in-Some-take.ensures.below c.if-long-parameter-lt32.true)
+    let form_is : old.left ≡ form 32 mid.left = c.in-Some.ensures.bits ∙ ap (λ (n : ℕ). form n mid.left) c.if-ones-eq-LONG_ONES.true in
+    (c.place-bit.ensures, long_of_small c.args.parameter c.in-Some-take.long old.left mid.left c.take.new.self.left form_is c.in-Some-take.ensures.bits c.in-Some-take.ensures.below c.if-long-parameter-lt-LONG_ONES.true)
 
-pub returns-then-ones-eq32-clause-code : goal.returns-then-ones-eq32-clause-code
-returns-then-ones-eq32-clause-code c =
+pub returns-then-ones-eq-LONG_ONES-clause-code : goal.returns-then-ones-eq-LONG_ONES-clause-code
+returns-then-ones-eq-LONG_ONES-clause-code c =
     let old = c.args.reader.now in
     let mid = c.take_ones.new.self in
-    let form_is : old.left ≡ form 32 mid.left = c.in-Some.ensures.bits ∙ ap (λ (n : ℕ). form n mid.left) c.if-ones-eq32.true in
-    long_code c.args.parameter c.in-Some-take.long old.left mid.left c.take.new.self.left form_is c.in-Some-take.ensures.bits c.if-long-parameter-lt32.false
+    let form_is : old.left ≡ form 32 mid.left = c.in-Some.ensures.bits ∙ ap (λ (n : ℕ). form n mid.left) c.if-ones-eq-LONG_ONES.true in
+    long_code c.args.parameter c.in-Some-take.long old.left mid.left c.take.new.self.left form_is c.in-Some-take.ensures.bits c.if-long-parameter-lt-LONG_ONES.false
 
-pub returns-then-ones-eq32-clause-end : goal.returns-then-ones-eq32-clause-end
-returns-then-ones-eq32-clause-end c =
+pub returns-then-ones-eq-LONG_ONES-clause-end : goal.returns-then-ones-eq-LONG_ONES-clause-end
+returns-then-ones-eq-LONG_ONES-clause-end c =
     end_after c.args.reader.now c.take_ones.new.self c.take.new.self (low_bits 18 c.in-Some-take.long) 18 (length-low_bits 18 c.in-Some-take.long) c.in-Some-take.ensures.bits c.in-Some-take.ensures.place c.in-Some.ensures.end
 
 pub returns-in_default-take-2-clause-fault : goal.returns-in_default-take-2-clause-fault
@@ -46,8 +46,8 @@ returns-in_default-take-2-clause-fault c =
     let few : c.in-Some.ones < 32 = omega arith in
     (c.end-in_default-take-2.ensures ∙ end_same old mid c.take-2.new.self none.unchanged c.in-Some.ensures.end, cut_in_short c.args.parameter c.in-Some.ones old.left mid.left few c.in-Some.ensures.bits (none.none.0 refl))
 
-pub returns-then-short-clause-fault : goal.returns-then-short-clause-fault
-returns-then-short-clause-fault c =
+pub returns-then-short-ge-FOLDED_LIMIT-clause-fault : goal.returns-then-short-ge-FOLDED_LIMIT-clause-fault
+returns-then-short-ge-FOLDED_LIMIT-clause-fault c =
     let old = c.args.reader.now in
     let mid = c.take_ones.new.self in
     let most = c.in-Some.ensures.ones in

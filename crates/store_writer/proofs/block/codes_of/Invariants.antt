@@ -10,5 +10,5 @@ invariant-loop-b g l = record {
   few : l.codes.count ≤ 8 * l.b;
   list :
       residual_list l.codes
-      ≡ rows_codes (code_over (patch_height l.patch) (g.F.Heights.heights l.finer) l.step) (region_of l.cells) l.b;
+      ≡ rows_codes (code_over (patch_height l.predicted.patch.now) (g.F.Heights.heights l.finer) l.step) (region_of l.cells) l.b;
 }

@@ -13,7 +13,7 @@ use Rattle.store_writer.proofs.block.push_row.Goals.{then-is_coded, else-is_code
 
 pub loop-a-init : goal.loop-a-init
 loop-a-init g c =
-    let code = code_over (patch_height c.args.patch.now) (g.F.Heights.heights c.args.finer.now) c.args.step in
+    let code = code_over (patch_height c.args.predicted.now.patch.now) (g.F.Heights.heights c.args.finer.now) c.args.step in
     let old = residual_list c.args.codes.now in
     record {
       few = omega arith;
@@ -22,7 +22,7 @@ loop-a-init g c =
 
 pub loop-a-preserved : goal.loop-a-preserved
 loop-a-preserved g c =
-    let code = code_over (patch_height c.args.patch.now) (g.F.Heights.heights c.args.finer.now) c.args.step in
+    let code = code_over (patch_height c.args.predicted.now.patch.now) (g.F.Heights.heights c.args.finer.now) c.args.step in
     let old = residual_list c.args.codes.now in
     let x = pos c.args.cells.x0 in
     let j = pos c.args.j in

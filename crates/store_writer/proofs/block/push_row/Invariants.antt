@@ -9,5 +9,5 @@ invariant-loop-a g l = record {
   few : l.codes.count ≤ l.initial.codes.count + l.a;
   list :
       residual_list l.codes
-      ≡ residual_list l.initial.codes ++ row_codes (code_over (patch_height l.patch) (g.F.Heights.heights l.finer) l.step) (pos l.cells.x0) (pos l.j) l.a;
+      ≡ residual_list l.initial.codes ++ row_codes (code_over (patch_height l.predicted.patch.now) (g.F.Heights.heights l.finer) l.step) (pos l.cells.x0) (pos l.j) l.a;
 }

@@ -1,12 +1,17 @@
-use Rattle.std.proofs.Common.{◌≡◌, ◌∙◌, ◌++◌, ◌∷◌, [], ℤ, List, ap, arith}
+use Rattle.std.proofs.Common.{◌≡◌, ◌∙◌, ◌++◌, ◌∷◌, [], ℤ, List, ap, sym, arith}
 use Rattle.std.specs.Int.{w16}
 use Rattle.std.proofs.lemmas.Int.{to_z-of_z}
 use mir.Val.{SFits}
 use Rattle.store_writer.specs.Cells.{region_of}
 use Rattle.store_writer.specs.Tables.{restored_in}
+use Rattle.store_writer.proofs.Patches.{predictions_of}
 use Rattle.store_writer.proofs.Rows.{put_more, put_none}
 use Rattle.store_writer.proofs.Restored.{heights_before, heights_none, heights_more, heights_all}
 use Rattle.store_writer.proofs.table.append_restored.Goals as goal
+
+pub restored_at-requires-clause-predictions : goal.restored_at-requires-clause-predictions
+restored_at-requires-clause-predictions g c =
+    predictions_of c.patch_of-patch.result c.predict_block-predicted.result.patch.now (g.C.Heights.heights c.args.coarser.now) (sym c.predict_block-predicted.ensures) c.patch_of-patch.ensures.predictions
 
 pub loop-n-init : goal.loop-n-init
 loop-n-init g c =

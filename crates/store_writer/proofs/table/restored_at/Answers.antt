@@ -45,7 +45,7 @@ returns g c =
     let r = c.requires in
     let i = c.args.i in
     let j = c.args.j in
-    let patch = c.args.patch.now in
+    let patch = c.args.predicted.now.patch.now in
     let inside = cells_lie c.args.cells i j r.first_column r.first_row (omega arith) (omega arith) in
     let coded : is_coded (pos i) (pos j) ≡ true = sym c.if-not-is_coded.ensures in
     let fits : SFits w16 c.coded_height.result = record { sfits = c.coded_height.type_inv } in
