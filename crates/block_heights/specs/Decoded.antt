@@ -38,21 +38,24 @@ pub record IsPatchOf (bx by : ℤ) (patch : Patch) : Type 0 where
   pub column : patch.i0 ≡ pos 4 *ℤ bx -ℤ pos 1
   pub row : patch.j0 ≡ pos 4 *ℤ by -ℤ pos 1
 
--- a block is outside exactly where none of its cells lies in the terrain; its bytes are few; words need the block's patch
+-- a block is outside exactly where none of its cells lies in the terrain; its bytes are few; words need the block's
+-- patch
 abbrev pub HasKind : Kind → ℤ → ℤ → Region → Patch → Type 0
 HasKind Outside bx by inside patch = is_empty inside ≡ true
 HasKind (Plain bytes) bx by inside patch = IsPartOf bx by inside × (length bytes.now < 65536)
 HasKind (Words bytes) bx by inside patch = IsPartOf bx by inside × (length bytes.now < 65536) × IsPatchOf bx by patch
 
 -- the bytes are a word of codes, by which the piece has its heights
-pub record HasCodedHeights (coarser : ℤ → ℤ → ℤ) (step : ℕ) (inside cells : Region) (bytes : List ℕ) (out : List ℤ) : Type 0 where
+pub record HasCodedHeights (coarser : ℤ → ℤ → ℤ) (step : ℕ) (inside cells : Region) (bytes : List ℕ)
+    (out : List ℤ) : Type 0 where
   pub code : ℤ → ℤ → ℤ
   pub coding : IsCoding code inside bytes
   pub near : AreNearUpTo (length out) coarser step code inside cells
   pub heights : IsPieceUpTo (length out) (within inside (coded_height coarser step code)) cells out
 
 -- the bytes are a word of codes, of which a cell of the piece has a value that is out of range
-pub record HasCodedFault (coarser : ℤ → ℤ → ℤ) (step : ℕ) (inside cells : Region) (bytes : List ℕ) (n : ℕ) (fault : PieceFault) : Type 0 where
+pub record HasCodedFault (coarser : ℤ → ℤ → ℤ) (step : ℕ) (inside cells : Region) (bytes : List ℕ) (n : ℕ)
+    (fault : PieceFault) : Type 0 where
   pub code : ℤ → ℤ → ℤ
   pub coding : IsCoding code inside bytes
   pub out : HasOut coarser step code inside cells n fault
@@ -72,11 +75,14 @@ HasPlainPieceFault cells bytes (OutOfRange i j value) = ⊥
 abbrev pub HasHeights : Kind → Patch → ℕ → Region → Region → List ℤ → Type 0
 HasHeights Outside patch step inside cells out = IsPieceUpTo (length out) (λ i j. pos 0) cells out
 HasHeights (Plain bytes) patch step inside cells out =
-    (length bytes.now ≡ 2 * area inside) × IsPieceUpTo (length out) (within inside (plain_height bytes.now inside)) cells out
-HasHeights (Words bytes) patch step inside cells out = HasCodedHeights (patch_height patch) step inside cells bytes.now out
+    (length bytes.now ≡ 2 * area inside)
+    × IsPieceUpTo (length out) (within inside (plain_height bytes.now inside)) cells out
+HasHeights (Words bytes) patch step inside cells out =
+    HasCodedHeights (patch_height patch) step inside cells bytes.now out
 
 -- why a piece of a block, of n cells, has no heights
 abbrev pub HasPieceFault : Kind → Patch → ℕ → Region → Region → ℕ → PieceFault → Type 0
 HasPieceFault Outside patch step inside cells n fault = ⊥
 HasPieceFault (Plain bytes) patch step inside cells n fault = HasPlainPieceFault (area inside) bytes.now fault
-HasPieceFault (Words bytes) patch step inside cells n fault = HasWordFault (patch_height patch) step inside cells bytes.now n fault
+HasPieceFault (Words bytes) patch step inside cells n fault =
+    HasWordFault (patch_height patch) step inside cells bytes.now n fault

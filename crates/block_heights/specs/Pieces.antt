@@ -64,10 +64,13 @@ coded_height coarser step code i j = brought (value_of coarser step i j (code i 
 -- the values of the first n cells of a piece that lie inside are near heights of 16 bits
 abbrev pub AreNearUpTo : ℕ → (ℤ → ℤ → ℤ) → ℕ → (ℤ → ℤ → ℤ) → Region → Region → Type 0
 AreNearUpTo n coarser step code inside cells =
-    (k : ℕ) → k < n → IsTrue (contains inside (column_of cells k) (row_of cells k)) → IsNear step (value_of coarser step (column_of cells k) (row_of cells k) (code (column_of cells k) (row_of cells k)))
+    (k : ℕ) → k < n → IsTrue (contains inside (column_of cells k) (row_of cells k))
+    → IsNear step
+    (value_of coarser step (column_of cells k) (row_of cells k) (code (column_of cells k) (row_of cells k)))
 
 -- cell k of a piece is the first that lies inside and whose value isn't near a height of 16 bits
-pub record IsOutAt (k : ℕ) (coarser : ℤ → ℤ → ℤ) (step : ℕ) (code : ℤ → ℤ → ℤ) (inside cells : Region) (i j value : ℤ) : Type 0 where
+pub record IsOutAt (k : ℕ) (coarser : ℤ → ℤ → ℤ) (step : ℕ) (code : ℤ → ℤ → ℤ) (inside cells : Region)
+    (i j value : ℤ) : Type 0 where
   pub column : i ≡ column_of cells k
   pub row : j ≡ row_of cells k
   pub within_block : IsTrue (contains inside i j)
@@ -78,10 +81,12 @@ pub record IsOutAt (k : ℕ) (coarser : ℤ → ℤ → ℤ) (step : ℕ) (code 
 -- why a piece of a block of codes has no heights
 abbrev pub HasOut : (ℤ → ℤ → ℤ) → ℕ → (ℤ → ℤ → ℤ) → Region → Region → ℕ → PieceFault → Type 0
 HasOut coarser step code inside cells n (BadBlock fault) = ⊥
-HasOut coarser step code inside cells n (OutOfRange i j value) = (k : ℕ) × (k < n) × IsOutAt k coarser step code inside cells i j value
+HasOut coarser step code inside cells n (OutOfRange i j value) =
+    (k : ℕ) × (k < n) × IsOutAt k coarser step code inside cells i j value
 
 -- the fault is that of a cell
 abbrev pub IsOutCell : (ℤ → ℤ → ℤ) → ℕ → (ℤ → ℤ → ℤ) → Region → ℤ → ℤ → PieceFault → Type 0
 IsOutCell coarser step code inside i j (BadBlock fault) = ⊥
 IsOutCell coarser step code inside i j (OutOfRange a b value) =
-    (a ≡ i) × (b ≡ j) × IsTrue (contains inside i j) × (value ≡ value_of coarser step i j (code i j)) × (¬ IsNear step value)
+    (a ≡ i) × (b ≡ j) × IsTrue (contains inside i j) × (value ≡ value_of coarser step i j (code i j))
+    × (¬ IsNear step value)

@@ -28,7 +28,8 @@ coded_before region columns n = length (flat_map (λ b. coded_columns region b c
 
 -- a row has 0 at each column that has no coded cell in row b
 abbrev pub IsCodeRow : Region → ℕ → List ℤ → Type 0
-IsCodeRow region b row = (a : ℕ) → is_coded (region.x0 +ℤ pos a) (region.y0 +ℤ pos b) ≡ false → slice_index_or row a (pos 0) ≡ pos 0
+IsCodeRow region b row =
+    (a : ℕ) → is_coded (region.x0 +ℤ pos a) (region.y0 +ℤ pos b) ≡ false → slice_index_or row a (pos 0) ≡ pos 0
 
 -- each number of a row is one that a code may be
 abbrev pub HasCodes : List ℤ → Type 0

@@ -63,7 +63,8 @@ fn first_of(region: Region) -> Cell
 fn next_cell(region: Region, cell: Cell) -> Cell
     requires region { IsSmall region }
     requires inside { Lies region cell.i cell.j }
-    ensures { (k : ℕ) → cell.i ≡ column_of region k → cell.j ≡ row_of region k → IsCellAt region (k + 1) result.i result.j }
+    ensures { (k : ℕ) → cell.i ≡ column_of region k → cell.j ≡ row_of region k →
+        IsCellAt region (k + 1) result.i result.j }
 {
     if cell.i < region.x1 {
         Cell {
@@ -193,10 +194,8 @@ fn fill_coded(codes: Codes<'_>, cells: Region, out: &mut [i16]) -> Result<(), Pi
     for k in 0..out.len() {
         let here = cell;
         cell = next_cell(cells, here);
-        match height_at(codes, here) {
-            Ok(height) => out[k] = height,
-            Err(fault) => return Err(fault),
-        }
+        let height = height_at(codes, here)?;
+        out[k] = height;
     }
     Ok(())
 }

@@ -1,5 +1,5 @@
 -- How large a code is, and how near its value is to the height.
-use Rattle.std.proofs.Common.{◌≡◌, ℕ, ◌+◌, ◌-◌, ◌/◌, ◌<◌, ◌≤◌, ℤ, pos, negsuc, ◌+ℤ◌, ◌-ℤ◌, ◌*ℤ◌, ◌≤ℤ◌, ◌<ℤ◌, ⊎_elim, ◌⊎◌, inl, inr, arith}
+use Rattle.std.proofs.Common.{◌≡◌, ℕ, ◌+◌, ◌-◌, ◌/◌, ◌<◌, ◌≤◌, ℤ, pos, negsuc, ◌+ℤ◌, ◌-ℤ◌, ◌*ℤ◌, ◌≤ℤ◌, ◌<ℤ◌, ⊎_elim, ◌⊎◌, inl, inr, sym, ap, ◌∙◌, arith}
 use Rattle.std.proofs.lemmas.Int.{ints}
 use Rattle.std.proofs.lemmas.Int.{clamps}
 use Rattle.std.proofs.Common.{refl, unsigned_abs, FitsSigned, ◌^◌}
@@ -78,6 +78,9 @@ by_one a =
     let below = rem_below (a +ℤ pos 0) 1 (omega arith) in
     let whole = quotient_and_rest (a +ℤ pos 0) 1 (omega arith) in
     omega (arith, ints)
+
+pub in_steps_of_one : (a : ℤ) (step : ℕ) → step ≡ 1 → a ≡ floor_div (a +ℤ pos ((step - 1) / 2)) step
+in_steps_of_one a step e = sym (ap (λ (n : ℕ). floor_div (a +ℤ pos ((n - 1) / 2)) n) e ∙ by_one a)
 
 pub code_by_one : (coarser : ℤ → ℤ → ℤ) (i j height : ℤ) → code_of coarser 1 i j height ≡ height -ℤ prediction coarser i j
 unfolding code_of

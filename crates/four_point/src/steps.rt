@@ -26,12 +26,16 @@ pub fn code_by(patch: &Patch, i: i32, j: i32, height: i16, step: u8) -> i32
 }
 
 /// How many steps a distance has, to the nearest whole number.
+#[inline]
 pub(crate) fn steps_in(distance: i32, step: u8) -> i32
     requires distance { IsAtMost 100000 distance }
     requires step { IsStep step }
     ensures value { result ≡ floor_div (distance +ℤ pos ((step - 1) / 2)) step }
     ensures size { IsAtMost 131071 result }
 {
+    if step == 1 {
+        return distance;
+    }
     floor_div(distance + i32::from((step - 1) / 2), i32::from(step))
 }
 

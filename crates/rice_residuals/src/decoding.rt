@@ -121,14 +121,9 @@ fn read_word(bytes: &[u8], count: u8) -> Result<Residuals, BlockFault>
     let Some(parameter) = reader.take(4) else {
         return Err(BlockFault::CutShort { bit: 0 });
     };
-    let found = match read_codes(&mut reader, parameter as u8, count) {
-        Ok(found) => found,
-        Err(fault) => return Err(fault),
-    };
-    match read_end(&mut reader) {
-        Ok(()) => Ok(found),
-        Err(fault) => Err(fault),
-    }
+    let found = read_codes(&mut reader, parameter as u8, count)?;
+    read_end(&mut reader)?;
+    Ok(found)
 }
 
 /// The residuals of a word of `count` residuals, by any parameter, or the first fault in the order in which bits are

@@ -9,7 +9,8 @@ use Rattle.store_index.specs.Places.{block_total, number_of, AreThere, first_off
 -- all blocks of a store stand whole in its bytes
 abbrev pub BlocksAreThere : Type 0
 BlocksAreThere =
-    (head : Head) (terrain : Terrain) (bytes : List ℕ) → IsStore head terrain bytes → AreThere bytes (first_offset head) (block_total head)
+    (head : Head) (terrain : Terrain) (bytes : List ℕ) → IsStore head terrain bytes
+    → AreThere bytes (first_offset head) (block_total head)
 
 -- what stands at a block's number is that block
 abbrev pub BlocksAreFound : Type 0

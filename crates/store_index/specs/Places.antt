@@ -46,7 +46,8 @@ first_offset head = 12 + head.version
 abbrev pub stored_block : Head → List ℕ → ℕ → List ℕ
 stored_block head bytes number = content_at bytes (behind bytes (first_offset head) number)
 
--- the bytes of block k of a level stand in those of a store: behind the coarser levels and the level's blocks before it, and behind their number
+-- the bytes of block k of a level stand in those of a store: behind the coarser levels and the level's blocks before
+-- it, and behind their number
 pub record IsBlockIn (head : Head) (heights : Levels) (bytes : List ℕ) (level k : ℕ) (content : List ℕ) : Type 0 where
   pub before : List ℕ
   pub blocks : List ℕ
@@ -84,4 +85,5 @@ pub record IsPlaceOf (head : Head) (level : ℕ) (bx by : ℤ) (place : Place) :
 -- the store has no such level, or no cell of the block in column bx and row by lies in the terrain
 abbrev pub HasNoBlock : Head → ℕ → ℤ → ℤ → Type 0
 HasNoBlock head level bx by =
-    level < head.levels → (i j : ℤ) → contains (block_cells bx by) i j ≡ true → contains (level_region head.width head.height level) i j ≡ false
+    level < head.levels → (i j : ℤ) → contains (block_cells bx by) i j ≡ true
+    → contains (level_region head.width head.height level) i j ≡ false

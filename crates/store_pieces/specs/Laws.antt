@@ -17,11 +17,14 @@ use Rattle.terrain_store.specs.Blocks.{HasBlock}
 -- over the cells of a piece that lie in the terrain, the patch predicts as the next coarser level does, if there is one
 abbrev pub Predicts : Patch → Stored → ℕ → Region → Type 0
 Predicts patch store level cells =
-    (i j : ℤ) → level + 1 < store.head.levels → contains (level_region store.head.width store.head.height level) i j ≡ true → contains cells i j ≡ true
+    (i j : ℤ) → level + 1 < store.head.levels
+    → contains (level_region store.head.width store.head.height level) i j ≡ true → contains cells i j ≡ true
     → prediction (patch_height patch) i j ≡ prediction (level_height store.terrain (level + 1)) i j
 
--- what the store has of a block, some cells of the block, and a patch that predicts those in the terrain as the next coarser level does
-pub record IsPieceOf (store : Stored) (kind : Kind) (level : ℕ) (bx by : ℤ) (inside cells : Region) (patch : Patch) : Type 0 where
+-- what the store has of a block, some cells of the block, and a patch that predicts those in the terrain as the next
+-- coarser level does
+pub record IsPieceOf (store : Stored) (kind : Kind) (level : ℕ) (bx by : ℤ) (inside cells : Region)
+    (patch : Patch) : Type 0 where
   pub stands : IsStored store
   pub in_store : level < store.head.levels
   pub block : HasBlock kind store level bx by inside
@@ -32,11 +35,14 @@ pub record IsPieceOf (store : Stored) (kind : Kind) (level : ℕ) (bx by : ℤ) 
 abbrev pub PiecesAreHeights : Type 0
 PiecesAreHeights =
     (store : Stored) (kind : Kind) (level : ℕ) (bx by : ℤ) (inside cells : Region) (patch : Patch) (out : List ℤ)
-    → IsPieceOf store kind level bx by inside cells patch → length out ≡ area cells → HasHeights kind patch store.head.step inside cells out
+    → IsPieceOf store kind level bx by inside cells patch → length out ≡ area cells
+    → HasHeights kind patch store.head.step inside cells out
     → IsPieceUpTo (length out) (level_height store.terrain level) cells out
 
 -- decoding refuses none
 abbrev pub PiecesHaveNoFault : Type 0
 PiecesHaveNoFault =
-    (store : Stored) (kind : Kind) (level : ℕ) (bx by : ℤ) (inside cells : Region) (patch : Patch) (n : ℕ) (fault : PieceFault)
-    → IsPieceOf store kind level bx by inside cells patch → n ≡ area cells → HasPieceFault kind patch store.head.step inside cells n fault → ⊥
+    (store : Stored) (kind : Kind) (level : ℕ) (bx by : ℤ) (inside cells : Region) (patch : Patch) (n : ℕ)
+    (fault : PieceFault)
+    → IsPieceOf store kind level bx by inside cells patch → n ≡ area cells
+    → HasPieceFault kind patch store.head.step inside cells n fault → ⊥

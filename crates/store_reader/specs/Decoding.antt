@@ -31,7 +31,8 @@ IsDecoded (Over grid) step cells bytes out = IsCodedOf (level_height grid.now 0)
 -- why the bytes of a word have no heights
 abbrev pub IsCodedFault : (ℤ → ℤ → ℤ) → ℕ → Region → List ℕ → PieceFault → Type 0
 IsCodedFault coarser step cells bytes (piece.BadBlock fault) = HasFault (code_count cells) bytes fault
-IsCodedFault coarser step cells bytes (piece.OutOfRange i j value) = HasValueOut coarser step cells bytes i j value × (pos 0 ≤ℤ i) × (pos 0 ≤ℤ j)
+IsCodedFault coarser step cells bytes (piece.OutOfRange i j value) =
+    HasValueOut coarser step cells bytes i j value × (pos 0 ≤ℤ i) × (pos 0 ≤ℤ j)
 
 -- whether the blocks are heights as they are
 abbrev pub is_plain : Source → Bool

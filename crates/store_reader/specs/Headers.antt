@@ -8,7 +8,13 @@ use Rattle.store_model.specs.declared.fault.StoreFault.TheVariants.{BadMagic, Ba
 use Rattle.store_reader.specs.declared.header.Header.{Header}
 
 abbrev pub head_of : Header → Head
-head_of header = record { version = header.version; width = header.width; height = header.height; levels = header.levels; step = header.step }
+head_of header = record {
+  version = header.version;
+  width = header.width;
+  height = header.height;
+  levels = header.levels;
+  step = header.step;
+}
 
 -- how many bytes the header of a version has
 abbrev pub head_length : Header → ℕ
@@ -30,7 +36,8 @@ pub record IsHeaderOf (header : Header) (bytes : List ℕ) : Type 0 where
 -- the first fault of bytes that don't begin with the header of a store
 abbrev pub HasHeaderFault : List ℕ → StoreFault → Type 0
 HasHeaderFault bytes BadMagic = (¬ BeginsAs 1 bytes) × (¬ BeginsAs 2 bytes)
-HasHeaderFault bytes (BadHeader field) = (head : Head) × (rest : List ℕ) × OpensWithHead head bytes rest × IsBadField head field
+HasHeaderFault bytes (BadHeader field) =
+    (head : Head) × (rest : List ℕ) × OpensWithHead head bytes rest × IsBadField head field
 HasHeaderFault bytes (CutShort offset) = (offset ≡ length bytes) × IsCutHead bytes
 HasHeaderFault bytes (BadBlock level bx by fault) = ⊥
 HasHeaderFault bytes (OutOfRange level i j value) = ⊥

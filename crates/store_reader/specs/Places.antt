@@ -22,7 +22,8 @@ pub record IsSoundPlace (place : Place) : Type 0 where
 
 -- the heights of a level in a table of its cells, row by row
 abbrev pub table_of : Head → ℕ → List ℤ → Terrain
-table_of head level table = record { width = cells_on head.width level; height = cells_on head.height level; table = table }
+table_of head level table =
+    record { width = cells_on head.width level; height = cells_on head.height level; table = table }
 
 abbrev pub cell_heights : Head → ℕ → List ℤ → ℤ → ℤ → ℤ
 cell_heights head level table = height_at (table_of head level table)

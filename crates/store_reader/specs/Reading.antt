@@ -30,7 +30,8 @@ pub record IsReading (header : Header) (level : ℕ) (source : Source) : Type 0 
   pub kind : is_plain source ≡ (level + 1 == header.levels)
 
 -- block k of a level, from one offset to the next, was read into the table of the level
-pub record BlockRead (head : Head) (source : Source) (level k : ℕ) (bytes : List ℕ) (at next : ℕ) (old new : List ℤ) : Type 0 where
+pub record BlockRead (head : Head) (source : Source) (level k : ℕ) (bytes : List ℕ) (at next : ℕ)
+    (old new : List ℤ) : Type 0 where
   pub content : List ℕ
   pub out : List ℤ
   pub short : length content < 2 ^ 16
@@ -39,21 +40,26 @@ pub record BlockRead (head : Head) (source : Source) (level k : ℕ) (bytes : Li
   pub size : length out ≡ area (region_of head level k)
   pub decoded : IsDecoded source head.step (region_of head level k) content out
   pub piece : IsPieceUpTo (length out) (cell_heights head level new) (region_of head level k) out
-  pub kept : (i j : ℤ) → contains (region_of head level k) i j ≡ false → cell_heights head level new i j ≡ cell_heights head level old i j
+  pub kept :
+      (i j : ℤ) → contains (region_of head level k) i j ≡ false
+      → cell_heights head level new i j ≡ cell_heights head level old i j
 
 -- the first k blocks of a level, from one offset to another, were read into its table
-pub record BlocksRead (head : Head) (source : Source) (level k : ℕ) (bytes : List ℕ) (start at : ℕ) (table : List ℤ) : Type 0 where
+pub record BlocksRead (head : Head) (source : Source) (level k : ℕ) (bytes : List ℕ) (start at : ℕ)
+    (table : List ℤ) : Type 0 where
   pub content : ℕ → List ℕ
   pub out : ℕ → List ℤ
   pub ends : at ≤ length bytes
   pub short : (m : ℕ) → m < k → length (content m) < 2 ^ 16
   pub sizes : (m : ℕ) → m < k → length (out m) ≡ area (region_of head level m)
   pub decoded : (m : ℕ) → m < k → IsDecoded source head.step (region_of head level m) (content m) (out m)
-  pub pieces : (m : ℕ) → m < k → IsPieceUpTo (length (out m)) (cell_heights head level table) (region_of head level m) (out m)
+  pub pieces :
+      (m : ℕ) → m < k → IsPieceUpTo (length (out m)) (cell_heights head level table) (region_of head level m) (out m)
   pub spelled : drop start bytes ≡ flat_map (λ m. entry (content m)) (range_with_len 0 k) ++ drop at bytes
 
 -- some blocks of a level were read, and then comes the fault
-pub record HasLevelFault (head : Head) (source : Source) (level : ℕ) (bytes : List ℕ) (start : ℕ) (fault : StoreFault) : Type 0 where
+pub record HasLevelFault (head : Head) (source : Source) (level : ℕ) (bytes : List ℕ) (start : ℕ)
+    (fault : StoreFault) : Type 0 where
   pub k : ℕ
   pub below : k < block_count head.width head.height level
   pub at : ℕ
@@ -62,7 +68,8 @@ pub record HasLevelFault (head : Head) (source : Source) (level : ℕ) (bytes : 
   pub follows : HasFaultAt head (coarser_of source) level k bytes (drop at bytes) fault
 
 -- a whole level was read into a grid of its cells
-pub record LevelRead (head : Head) (source : Source) (level : ℕ) (bytes : List ℕ) (start at : ℕ) (grid : Terrain) : Type 0 where
+pub record LevelRead (head : Head) (source : Source) (level : ℕ) (bytes : List ℕ) (start at : ℕ)
+    (grid : Terrain) : Type 0 where
   pub read : BlocksRead head source level (block_count head.width head.height level) bytes start at grid.table
   pub columns : grid.width ≡ cells_on head.width level
   pub rows : grid.height ≡ cells_on head.height level
@@ -97,11 +104,13 @@ ReadsBlock reading k at next old new =
 
 abbrev pub FailsAt : Reading → ℕ → ℕ → StoreFault → Type 0
 FailsAt reading k at fault =
-    HasFaultAt (head_of reading.header) (coarser_of reading.source) reading.level k reading.bytes.now (drop at reading.bytes.now) fault
+    HasFaultAt (head_of reading.header) (coarser_of reading.source) reading.level k reading.bytes.now
+    (drop at reading.bytes.now) fault
 
 abbrev pub ReadsBlocks : Reading → ℕ → ℕ → List ℤ → Type 0
 ReadsBlocks reading start at table =
-    BlocksRead (head_of reading.header) reading.source reading.level (blocks_in reading) reading.bytes.now start at table
+    BlocksRead (head_of reading.header) reading.source reading.level (blocks_in reading) reading.bytes.now start at
+    table
 
 abbrev pub FailsFrom : Reading → ℕ → StoreFault → Type 0
 FailsFrom reading start fault =

@@ -51,10 +51,7 @@ fn read_block(
     let mut heights = [0i16; 64];
     let span = span_of(place);
     let out = &mut heights[..span.width * span.rows];
-    match decode(place, reading.header.step, reading.source, content, out) {
-        Ok(()) => {}
-        Err(fault) => return Err(fault),
-    }
+    decode(place, reading.header.step, reading.source, content, out)?;
     let columns = cells_on(reading.header.width, reading.level);
     put_rows(table, columns as usize, span, out);
     Ok(at + 2 + content.len())
@@ -70,10 +67,7 @@ fn read_blocks(reading: Reading<'_>, start: usize, table: &mut [i16]) -> Result<
 {
     let mut at = start;
     for k in 0..block_total(reading.header, reading.level) {
-        match read_block(reading, at, k, table) {
-            Ok(next) => at = next,
-            Err(fault) => return Err(fault),
-        }
+        at = read_block(reading, at, k, table)?;
     }
     Ok(at)
 }
@@ -94,10 +88,7 @@ pub(crate) fn read_level(
     let Ok(mut table) = vec![in alloc; 0i16; cell_total(reading.header, reading.level)] else {
         return Err(StoreFault::NoMemory);
     };
-    let end = match read_blocks(reading, start, table.as_mut_slice()) {
-        Ok(end) => end,
-        Err(fault) => return Err(fault),
-    };
+    let end = read_blocks(reading, start, table.as_mut_slice())?;
     Ok(Reached {
         grid: Grid::new(columns, rows, table),
         at: end,

@@ -78,15 +78,9 @@ fn read_levels(alloc: Global, bytes: &[u8], header: Header) -> Result<Reached, S
         LevelsRead (head_of header) header.levels bytes.now reached.at reached.grid) }
     ensures fault { IfErr result (λ fault. (fault ≡ NoMemory) ⊎ HasStoreFault bytes.now fault) }
 {
-    let mut reached = match read_coarsest(alloc, bytes, header) {
-        Ok(coarsest) => coarsest,
-        Err(fault) => return Err(fault),
-    };
+    let mut reached = read_coarsest(alloc, bytes, header)?;
     for n in 1..header.levels {
-        match read_next(alloc, bytes, header, n, &reached) {
-            Ok(next) => reached = next,
-            Err(fault) => return Err(fault),
-        }
+        reached = read_next(alloc, bytes, header, n, &reached)?;
     }
     Ok(reached)
 }
@@ -98,14 +92,9 @@ fn read_store(alloc: Global, bytes: &[u8]) -> Result<StoredHeights, StoreFault>
 {
     terrain_model::finest_level();
     store_laws::stores_of_levels();
-    let header = match read_header(bytes) {
-        Ok(header) => header,
-        Err(fault) => return Err(fault),
-    };
-    let Reached { grid, at } = match read_levels(alloc, bytes, header) {
-        Ok(reached) => reached,
-        Err(fault) => return Err(fault),
-    };
+    let header = read_header(bytes)?;
+    let reached = read_levels(alloc, bytes, header)?;
+    let Reached { grid, at } = reached;
     if at < bytes.len() {
         return Err(StoreFault::Excess { offset: at as u64 });
     }
@@ -119,7 +108,8 @@ fn read_store(alloc: Global, bytes: &[u8]) -> Result<StoredHeights, StoreFault>
 pub fn read_heights(alloc: Global, bytes: &[u8]) -> Result<StoredHeights, StoreFault>
     // Ok comes exactly where the bytes are a store, and gives its header and its terrain.
     ensures store { IfOk result (λ stored. IsStore (head_of stored.header) stored.grid bytes.now) }
-    ensures accepts { (head : Head) → (terrain : Terrain) → IsStore head terrain bytes.now → IsOkUnless result NoMemory }
+    ensures accepts { (head : Head) → (terrain : Terrain) → IsStore head terrain bytes.now
+        → IsOkUnless result NoMemory }
     ensures same { (head : Head) → (terrain : Terrain) → IsStore head terrain bytes.now
         → IfOk result (λ stored. (head_of stored.header ≡ head) × (stored.grid ≡ terrain)) }
 

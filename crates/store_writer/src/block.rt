@@ -38,7 +38,8 @@ pub(crate) fn code_at<F: Heights>(
     requires near_column { i ≤ 2 ^ 27 }
     requires near_row { j ≤ 2 ^ 27 }
     requires step { IsStep step }
-    ensures value { result ≡ code_over (patch_height predicted.now.patch.now) (F.heights finer.now) step (pos i) (pos j) }
+    ensures value { result
+        ≡ code_over (patch_height predicted.now.patch.now) (F.heights finer.now) step (pos i) (pos j) }
     ensures size { IsResidual result }
 {
     let (column, row) = (i as i32, j as i32);
@@ -62,7 +63,8 @@ fn push_row<F: Heights>(
     requires room { codes.old.count + cells.columns ≤ 64 }
     ensures few { codes.new.count ≤ codes.old.count + cells.columns }
     ensures list { residual_list codes.new
-        ≡ residual_list codes.old ++ row_codes (code_over (patch_height predicted.now.patch.now) (F.heights finer.now) step)
+        ≡ residual_list codes.old ++ row_codes
+        (code_over (patch_height predicted.now.patch.now) (F.heights finer.now) step)
         (pos cells.x0) (pos j) cells.columns }
 {
     for a in 0..cells.columns {

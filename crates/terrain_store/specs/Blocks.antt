@@ -16,7 +16,8 @@ pub record IsStoredBlock (store : Stored) (level : ℕ) (bx by : ℤ) (inside : 
   pub cells : inside ≡ region_of store.head level k
   pub stored : IsBlockIn store.head (level_height store.terrain) store.bytes level k content
 
--- what the store has of the block in column bx and row by of a level: heights as they are at the coarsest level, and else a word of codes
+-- what the store has of the block in column bx and row by of a level: heights as they are at the coarsest level, and
+-- else a word of codes
 abbrev pub HasBlock : Kind → Stored → ℕ → ℤ → ℤ → Region → Type 0
 HasBlock Outside store level bx by inside = (is_empty inside ≡ true) × HasNoBlock store.head level bx by
 HasBlock (Plain bytes) store level bx by inside =

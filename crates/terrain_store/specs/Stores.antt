@@ -40,7 +40,8 @@ packed_by terrain levels step = record {
   bytes = canonical_store 2 terrain levels step;
 }
 
--- what a store keeps: bytes that stand for its terrain, the extremes of the terrain, and the offsets that lead to blocks
+-- what a store keeps: bytes that stand for its terrain, the extremes of the terrain, and the offsets that lead to
+-- blocks
 pub record IsKept (header : Header) (store : Stored) (marks : List ℕ) (least most : ℤ) : Type 0 where
   pub stands : IsStored store
   pub lowest : IsLeast least store.terrain.table

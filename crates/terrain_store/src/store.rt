@@ -142,7 +142,8 @@ impl Store {
         u64::from(block_total(self.header))
     }
 
-    /// The block in column `bx` and row `by` of a level: its cells in the terrain and its bytes, or `Outside` where it has
+    /// The block in column `bx` and row `by` of a level: its cells in the terrain and its bytes, or `Outside` where it
+    /// has
     /// no such cells or the store no such level. It is found in constant time, and no memory is taken.
     ///
     /// With the block's patch of coarser heights, `piece_heights` makes the level's heights of it.

@@ -16,7 +16,7 @@ next_cell-cell-requires-clause-inside c =
 
 pub loop-k-preserved : goal.loop-k-preserved
 loop-k-preserved c =
-    let a = c.in-Ok.ensures in
+    let a = c.in_ok-height.ensures in
     let cells = c.args.cells in
     let k = c.loop-k.k in
     let coarser = patch_height c.args.codes.patch.now in
@@ -27,12 +27,12 @@ loop-k-preserved c =
     let cell = c.loop-k.cell in
     let same = c.loop-k.auto.out in
     let inside : k < length c.loop-k.out = omega arith in
-    let fits : SFits w16 c.in-Ok.height = search rules in
+    let fits : SFits w16 c.in_ok-height.height = search rules in
     record {
       here = c.next_cell-cell.ensures k here.column here.row;
       heights =
           piece_more k heights cells c.loop-k.out _ inside
-          (to_z-of_z w16 c.in-Ok.height fits ∙ a.height ∙ ap₂ heights here.column here.row)
+          (to_z-of_z w16 c.in_ok-height.height fits ∙ a.height ∙ ap₂ heights here.column here.row)
           c.loop-k.invariant.heights;
       near =
           near_more k coarser step code c.args.codes.inside cells

@@ -1,5 +1,6 @@
 use Rattle.std.proofs.Common.{◌+◌, ◌*◌, ◌∙◌, ℕ, List, length, inl, refl, sym, ap}
 use Rattle.std.proofs.lemmas.List.Elements.{All-take}
+use Rattle.std.proofs.lemmas.Result.{err_from_is_err_and}
 use Rattle.rice_residuals.specs.Code.{IsResidual}
 use Rattle.rice_residuals.specs.List.{residual_list}
 use Rattle.rice_residuals.proofs.WordRead.{no_bytes, fault_in_codes, fault_at_end, word_at_end, place_behind, whole_bytes}
@@ -11,28 +12,30 @@ returns-in_default-clause-fault c =
     let empty = no_bytes c.args.bytes.now c.new-reader.result.left c.new-reader.ensures.left (none.none.0 refl) in
     (sym (ap (λ (x : List ℕ). 8 * length x) empty), inl empty)
 
-pub returns-in-Err-clause-fault : goal.returns-in-Err-clause-fault
-returns-in-Err-clause-fault c =
+pub returns-in_err-found-clause-fault : goal.returns-in_err-found-clause-fault
+returns-in_err-found-clause-fault c =
     let took = c.in-Some.ensures in
     let four = took.place ∙ ap (λ (n : ℕ). n + 4) c.new-reader.ensures.place in
-    fault_in_codes c.args.count c.args.bytes.now c.in-Some.parameter c.take.new.self.place c.take.new.self.left c.in-Err.fault took.below four (sym c.new-reader.ensures.left ∙ took.bits) c.in-Err.ensures.fault
+    let p = err_from_is_err_and c.from_residual.result c.from_residual.ensures.1 in
+    rw (p.1, p.2) (fault_in_codes c.args.count c.args.bytes.now c.in-Some.parameter c.take.new.self.place c.take.new.self.left _ took.below four (sym c.new-reader.ensures.left ∙ took.bits) c.in_err-found.ensures.fault)
 
 pub read_end-requires-clause-whole : goal.read_end-requires-clause-whole
 read_end-requires-clause-whole c =
     let took = c.in-Some.ensures in
     let four = took.place ∙ ap (λ (n : ℕ). n + 4) c.new-reader.ensures.place in
-    whole_bytes c.args.bytes.now c.in-Some.parameter c.take.new.self c.read_codes.new.reader four (sym c.new-reader.ensures.left ∙ took.bits) c.in-Ok.ensures.end
+    whole_bytes c.args.bytes.now c.in-Some.parameter c.take.new.self c.read_codes.new.reader four (sym c.new-reader.ensures.left ∙ took.bits) c.in_ok-found.ensures.end
 
-pub returns-in-Ok-read_end-clause-word : goal.returns-in-Ok-read_end-clause-word
-returns-in-Ok-read_end-clause-word c =
+pub returns-clause-word : goal.returns-clause-word
+returns-clause-word c =
     let took = c.in-Some.ensures in
-    let found = c.in-Ok.found in
-    word_at_end c.args.bytes.now c.in-Some.parameter (residual_list found) c.take.new.self.left c.read_codes.new.reader.left took.below (All-take IsResidual found.count found.values found.in_range) (sym c.new-reader.ensures.left ∙ took.bits) c.in-Ok.ensures.codes c.in-Ok-read_end.ensures.ok
+    let found = c.in_ok-found.found in
+    word_at_end c.args.bytes.now c.in-Some.parameter (residual_list found) c.take.new.self.left c.read_codes.new.reader.left took.below (All-take IsResidual found.count found.values found.in_range) (sym c.new-reader.ensures.left ∙ took.bits) c.in_ok-found.ensures.codes c.in_ok-read_end.ensures.ok
 
-pub returns-in-Err-read_end-clause-fault : goal.returns-in-Err-read_end-clause-fault
-returns-in-Err-read_end-clause-fault c =
+pub returns-in_err-read_end-clause-fault : goal.returns-in_err-read_end-clause-fault
+returns-in_err-read_end-clause-fault c =
     let took = c.in-Some.ensures in
-    let found = c.in-Ok.found in
+    let found = c.in_ok-found.found in
     let four = took.place ∙ ap (λ (n : ℕ). n + 4) c.new-reader.ensures.place in
-    let behind = place_behind c.in-Some.parameter (residual_list found) c.take.new.self c.read_codes.new.reader four c.in-Ok.ensures.codes c.in-Ok.ensures.end in
-    fault_at_end c.args.count c.args.bytes.now c.in-Some.parameter c.read_codes.new.reader.place (residual_list found) c.take.new.self.left c.read_codes.new.reader.left c.in-Err-read_end.fault took.below (All-take IsResidual found.count found.values found.in_range) c.in-Ok.ensures.length (sym c.new-reader.ensures.left ∙ took.bits) c.in-Ok.ensures.codes behind c.in-Err-read_end.ensures.fault
+    let behind = place_behind c.in-Some.parameter (residual_list found) c.take.new.self c.read_codes.new.reader four c.in_ok-found.ensures.codes c.in_ok-found.ensures.end in
+    let p = err_from_is_err_and c.from_residual-in_err-read_end.result c.from_residual-in_err-read_end.ensures.1 in
+    rw (p.1, p.2) (fault_at_end c.args.count c.args.bytes.now c.in-Some.parameter c.read_codes.new.reader.place (residual_list found) c.take.new.self.left c.read_codes.new.reader.left _ took.below (All-take IsResidual found.count found.values found.in_range) c.in_ok-found.ensures.length (sym c.new-reader.ensures.left ∙ took.bits) c.in_ok-found.ensures.codes behind c.in_err-read_end.ensures.fault)

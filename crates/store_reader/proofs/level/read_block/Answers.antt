@@ -1,5 +1,6 @@
 use Rattle.std.proofs.Common.{◌∙◌, ◌+◌, ◌*◌, ◌≤◌, ℕ, sym, subst, arith, rules, length}
 use Rattle.std.proofs.lemmas.List.{length-take-le}
+use Rattle.std.proofs.lemmas.Result.{err_from_is_err_and}
 use Rattle.store_model.specs.Sizes.{cells_on}
 use Rattle.store_reader.specs.Headers.{head_of}
 use Rattle.store_reader.specs.Tables.{AreRowsIn, IsKeptOutside}
@@ -12,10 +13,11 @@ decode-requires-clause-places c =
     length-take-le (span.width * span.rows) _ (few_cells span.width span.rows c.span_of-span.ensures.few_columns c.span_of-span.ensures.few_rows)
     ∙ span_area c.place_of-place.result.cells span c.span_of-span.ensures.span
 
-pub returns-in-Err-clause-fault : goal.returns-in-Err-clause-fault
-returns-in-Err-clause-fault c =
+pub returns-in_err-decode-clause-fault : goal.returns-in_err-decode-clause-fault
+returns-in_err-decode-clause-fault c =
     let r = c.args.reading in
-    fault_of (head_of r.header) r.source r.level c.args.k r.bytes.now c.args.at c.in-Some.content.now c.place_of-place.result c.in-Err.fault c.requires.reading.below c.requires.reading.kind c.place_of-place.ensures.place c.in-Some.ensures.short c.in-Some.ensures.entry c.in-Err.ensures.fault
+    let p = err_from_is_err_and c.from_residual.result c.from_residual.ensures.1 in
+    rw (p.1, p.2) (fault_of (head_of r.header) r.source r.level c.args.k r.bytes.now c.args.at c.in-Some.content.now c.place_of-place.result _ c.requires.reading.below c.requires.reading.kind c.place_of-place.ensures.place c.in-Some.ensures.short c.in-Some.ensures.entry c.in_err-decode.ensures.fault)
 
 pub put_rows-requires-clause-columns : goal.put_rows-requires-clause-columns
 put_rows-requires-clause-columns c =

@@ -11,4 +11,4 @@ loop-k-init c =
 pub loop-k-preserved : goal.loop-k-preserved
 loop-k-preserved c =
     let r = c.args.reading in
-    blocks_more (head_of r.header) r.source r.level c.loop-k.k r.bytes.now c.args.start c.loop-k.at c.in-Ok.next c.loop-k.table c.read_block.new.table (omega (arith, c.block_total-k-end.ensures)) c.loop-k.invariant c.in-Ok.ensures.read
+    blocks_more (head_of r.header) r.source r.level c.loop-k.k r.bytes.now c.args.start c.loop-k.at c.in_ok-at.at c.loop-k.table c.read_block.new.table (omega (arith, c.block_total-k-end.ensures)) c.loop-k.invariant c.in_ok-at.ensures.read
