@@ -32,10 +32,8 @@ pub fn read_store(alloc: Global, bytes: Vec<u8>) -> Result<Store, StoreFault>
     ensures refuses { (fault : StoreFault) → HasStoreFault bytes.items fault
         → (result ≡ Err fault) ⊎ (result ≡ Err NoMemory) }
 {
-    let (header, grid) = match read_heights(alloc, bytes.as_slice()) {
-        Ok(StoredHeights { header, grid }) => (header, grid),
-        Err(fault) => return Err(fault),
-    };
+    let stored = read_heights(alloc, bytes.as_slice())?;
+    let StoredHeights { header, grid } = stored;
     match keep(alloc, bytes, header, &grid) {
         Ok(store) => Ok(store),
         Err(_) => Err(StoreFault::NoMemory),

@@ -4,6 +4,6 @@ use Rattle.store_model.specs.declared.fault.StoreFault.TheVariants.{NoMemory}
 use Rattle.terrain_store.proofs.Results.{no_fault}
 use Rattle.terrain_store.proofs.reading.read_store.Goals as goal
 
-pub returns-in-Ok-keep-clause-refuses : goal.returns-in-Ok-keep-clause-refuses
-returns-in-Ok-keep-clause-refuses c = λ fault f.
-    absurd (no_fault c.in-Ok.field-0 fault NoMemory (c.in-Ok.ensures.refuses fault (subst (λ (xs : List ℕ). HasStoreFault xs fault) (sym c.as_slice.ensures.value) f)))
+pub returns-in-Ok-clause-refuses : goal.returns-in-Ok-clause-refuses
+returns-in-Ok-clause-refuses c = λ fault f.
+    absurd (no_fault c.in_ok-stored.stored fault NoMemory (c.in_ok-stored.ensures.refuses fault (subst (λ (xs : List ℕ). HasStoreFault xs fault) (sym c.as_slice.ensures.value) f)))
