@@ -23,8 +23,10 @@ pub record Same (before now : Content) : Type 0 where
 
 -- the content after an action
 abbrev pub act : Action → Content → Content
-act (Put name bytes) content = record { files = option_map (files_with name bytes) content.files; written = content.written }
-act (Write piece) content = record { files = content.files; written = option_map (λ bytes. bytes ++ piece) content.written }
+act (Put name bytes) content =
+    record { files = option_map (files_with name bytes) content.files; written = content.written }
+act (Write piece) content =
+    record { files = content.files; written = option_map (λ bytes. bytes ++ piece) content.written }
 
 -- the content after some actions, each in its turn
 abbrev pub content_after : List Action → Content → Content

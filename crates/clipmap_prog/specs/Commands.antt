@@ -39,6 +39,8 @@ abbrev pub store_inputs_of : Option CommandView → List (List ℕ)
 store_inputs_of None = []
 store_inputs_of (Some command) = store_inputs command
 
--- this holds of the outcome of the words, by the right verdict on the file of the store that they name, if they name one
+-- this holds of the outcome of the words, by the right verdict on the file of the store that they name, if they name
+-- one
 abbrev pub OfOutcome : List (List ℕ) → ShelfTold → ((Files → Outcome) → Type 0) → Type 0
-OfOutcome words shelf P = ByVerdict (store_inputs_of (command_of words)) shelf.files (λ verdict. P (outcome verdict words))
+OfOutcome words shelf P =
+    ByVerdict (store_inputs_of (command_of words)) shelf.files (λ verdict. P (outcome verdict words))

@@ -15,7 +15,8 @@ use Rattle.clipmap_prog.specs.declared.fault.Fault.{Fault}
 use Rattle.clipmap_prog.specs.declared.fault.Fault.TheVariants as fault
 
 -- why a command is refused: its words are no command, a word is no tile's name, a file or the tile in it is faulty, the
--- tiles make no terrain together, a file is no store, or it has another number of levels than was asked for, or the mesh
+-- tiles make no terrain together, a file is no store, or it has another number of levels than was asked for, or the
+-- mesh
 -- of a file isn't watertight
 pub data Cause : Type 0 where
   Words : Cause
@@ -35,7 +36,8 @@ file_line name (file.TooLong length limit) =
 
 -- the line of a file of that name that is no tile. Want of memory has none
 abbrev pub tile_line : List ℕ → TileFault → List ℕ
-tile_line name (tile.BadLength length) = codes "fault: BadLength " ++ (name ++ (codes " " ++ (decimal length ++ codes "\n")))
+tile_line name (tile.BadLength length) =
+    codes "fault: BadLength " ++ (name ++ (codes " " ++ (decimal length ++ codes "\n")))
 tile_line name tile.NoMemory = []
 
 -- the line of tiles that make no terrain together. That there is no tile is no command's, and want of memory has none
@@ -56,7 +58,8 @@ cause_line (File name fault) = file_line name fault
 cause_line (Tile name fault) = tile_line name fault
 cause_line (Mosaic fault) = mosaic_line fault
 cause_line (Store fault) = store_fault_line fault
-cause_line (LevelsDiffer stored asked) = codes "fault: LevelsDiffer " ++ (decimal stored ++ (codes " " ++ (decimal asked ++ codes "\n")))
+cause_line (LevelsDiffer stored asked) =
+    codes "fault: LevelsDiffer " ++ (decimal stored ++ (codes " " ++ (decimal asked ++ codes "\n")))
 cause_line (Mesh verdict) = verdict_line verdict
 
 -- the cause that a fault of the program's stands for

@@ -17,7 +17,8 @@ source_line (Store store) = store_line store.stored.head store.length
 -- what an `info` writes: the size of the terrain, its heights, and where it comes from
 abbrev pub info_actions : SourceView → List Action
 info_actions source =
-    Write (terrain_line (terrain_of source)) ∷ Write (heights_line (terrain_of source)) ∷ Write (source_line source) ∷ []
+    Write (terrain_line (terrain_of source)) ∷ Write (heights_line (terrain_of source)) ∷ Write (source_line source) ∷
+    []
 
 -- what an `info` does
 unfoldable pub info_outcome : Verdict → InfoView → Files → Outcome

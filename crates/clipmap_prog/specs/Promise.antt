@@ -22,7 +22,8 @@ status_of (Err halt.SinkFailed) = 4
 status_of (Err halt.NoMemory) = 5
 
 -- what a run did of an outcome
-pub record RanTo (leaves : Leaving) (outcome : Outcome) (result : Result ℕ Halt) (shelf shelf' : ShelfTold) (sink sink' : SinkTold) : Type 0 where
+pub record RanTo (leaves : Leaving) (outcome : Outcome) (result : Result ℕ Halt) (shelf shelf' : ShelfTold)
+    (sink sink' : SinkTold) : Type 0 where
   pub status : IfOk result (λ status. status ≡ outcome.status)
   pub ran : Ran leaves outcome.fetches outcome.actions result shelf shelf' sink sink'
 
@@ -45,11 +46,13 @@ Finishes outcome status shelf shelf' sink sink' =
 -- this halt leaves
 abbrev pub Halts : Leaving → Halt → (Files → Outcome) → ShelfTold → ShelfTold → SinkTold → SinkTold → Type 0
 Halts leaves halt outcome shelf shelf' sink sink' =
-    IfSome shelf.files (λ files. HaltedIn leaves halt (outcome files).actions (content_of shelf sink) (content_of shelf' sink'))
+    IfSome shelf.files
+    (λ files. HaltedIn leaves halt (outcome files).actions (content_of shelf sink) (content_of shelf' sink'))
 
 -- what stands afterwards, where the shelf tells its files: with a status up to 2 the whole outcome, else a front of it
 -- and what the refused call left
-pub record Stands (leaves : Leaving) (outcome : Files → Outcome) (status : ℕ) (shelf shelf' : ShelfTold) (sink sink' : SinkTold) : Type 0 where
+pub record Stands (leaves : Leaving) (outcome : Files → Outcome) (status : ℕ) (shelf shelf' : ShelfTold)
+    (sink sink' : SinkTold) : Type 0 where
   pub done : status ≤ 2 → Finishes outcome status shelf shelf' sink sink'
   pub shelf_stopped : status ≡ 3 → Halts leaves halt.ShelfFailed outcome shelf shelf' sink sink'
   pub sink_stopped : status ≡ 4 → Halts leaves halt.SinkFailed outcome shelf shelf' sink sink'
@@ -57,7 +60,8 @@ pub record Stands (leaves : Leaving) (outcome : Files → Outcome) (status : ℕ
 
 -- the causes of a status, for every shelf and sink: status 1 is for words that are no command, 3 and 4 for a count of
 -- faults that rose, and 5 for want of memory
-pub record HasCauses (words : List (List ℕ)) (status : ℕ) (shelf shelf' : ShelfTold) (sink sink' : SinkTold) : Type 0 where
+pub record HasCauses (words : List (List ℕ)) (status : ℕ) (shelf shelf' : ShelfTold)
+    (sink sink' : SinkTold) : Type 0 where
   pub no_words : status ≡ 1 → command_of words ≡ None
   pub no_command : command_of words ≡ None → (status ≡ 1) ⊎ ((status ≡ 4) ⊎ (status ≡ 5))
   pub shelf_failed : status ≡ 3 → Rose shelf.faults shelf'.faults
@@ -67,12 +71,14 @@ pub record HasCauses (words : List (List ℕ)) (status : ℕ) (shelf shelf' : Sh
 -- where no count of faults rose, the outcome is done or memory was wanting
 abbrev pub IsComplete : (Files → Outcome) → ℕ → ShelfTold → ShelfTold → SinkTold → SinkTold → Type 0
 IsComplete outcome status shelf shelf' sink sink' =
-    ¬ Rose shelf.faults shelf'.faults → ¬ Rose sink.faults sink'.faults → Finishes outcome status shelf shelf' sink sink' ⊎ (status ≡ 5)
+    ¬ Rose shelf.faults shelf'.faults → ¬ Rose sink.faults sink'.faults
+    → Finishes outcome status shelf shelf' sink sink' ⊎ (status ≡ 5)
 
 -- no more calls are made than the outcome has fetches, puts and writes, where the calls and the files are told
 abbrev pub ShelfCallsWithin : (Files → Outcome) → ShelfTold → ShelfTold → Type 0
 ShelfCallsWithin outcome shelf shelf' =
-    IfSome shelf.files (λ files. CallsWithin ((outcome files).fetches + put_count (outcome files).actions) shelf.calls shelf'.calls)
+    IfSome shelf.files
+    (λ files. CallsWithin ((outcome files).fetches + put_count (outcome files).actions) shelf.calls shelf'.calls)
 
 abbrev pub SinkCallsWithin : (Files → Outcome) → ShelfTold → SinkTold → SinkTold → Type 0
 SinkCallsWithin outcome shelf sink sink' =

@@ -29,7 +29,8 @@ and_then reading next = goes_on reading.fetches reading.found next
 -- a reading of each of some items in its turn, up to the first that is refused
 abbrev pub each_of : {A B : Type 0} → (A → Reading B) → List A → Reading (List B)
 each_of read [] = unfetched (Ok [])
-each_of read (item ∷ items) = and_then (read item) (λ first. and_then (each_of read items) (λ rest. unfetched (Ok (first ∷ rest))))
+each_of read (item ∷ items) =
+    and_then (read item) (λ first. and_then (each_of read items) (λ rest. unfetched (Ok (first ∷ rest))))
 
 -- what the code's reading answered, against what is meant to be found: what it found stands for that, or it has that
 -- cause

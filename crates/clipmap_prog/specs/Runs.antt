@@ -1,4 +1,5 @@
--- What a run did of a list of actions, however it ended: all of them, or a front of them and what the refusal of the next
+-- What a run did of a list of actions, however it ended: all of them, or a front of them and what the refusal of the
+-- next
 -- one left.
 use Rattle.std.specs.Prelude.{◌≡◌, ℕ, ◌+◌, ◌≤◌, List, [], ◌∷◌, ◌++◌, Option, None, option_map, IsSomeAnd, MatchOption, Result, Ok, Err, ◌⊎◌, ⊤}
 use Rattle.outer_shelf.specs.Counts.{Rose}
@@ -51,7 +52,8 @@ abbrev pub CallsWithin : ℕ → Option ℕ → Option ℕ → Type 0
 CallsWithin most before now = MatchOption before (now ≡ None) (λ calls. IsSomeAnd now (λ later. later ≤ calls + most))
 
 -- a run of these actions after so many fetches: what it did, by no more calls than it has fetches, puts and writes
-pub record Ran {A : Type 0} (leaves : Leaving) (fetches : ℕ) (actions : List Action) (result : Result A Halt) (shelf shelf' : ShelfTold) (sink sink' : SinkTold) : Type 0 where
+pub record Ran {A : Type 0} (leaves : Leaving) (fetches : ℕ) (actions : List Action) (result : Result A Halt)
+    (shelf shelf' : ShelfTold) (sink sink' : SinkTold) : Type 0 where
   pub did : Did leaves actions result (content_of shelf sink) (content_of shelf' sink')
   pub shelf_calls : CallsWithin (fetches + put_count actions) shelf.calls shelf'.calls
   pub sink_calls : CallsWithin (write_count actions) sink.calls sink'.calls
@@ -64,7 +66,8 @@ OnHalt (Err halt.SinkFailed) shelf_rose sink_rose = sink_rose
 OnHalt (Err halt.NoMemory) shelf_rose sink_rose = ⊤
 
 -- a run had a reason to halt: the count of faults of the shelf or the sink rose. No count fell
-pub record HadReason {A : Type 0} (result : Result A Halt) (shelf shelf' : ShelfTold) (sink sink' : SinkTold) : Type 0 where
+pub record HadReason {A : Type 0} (result : Result A Halt) (shelf shelf' : ShelfTold)
+    (sink sink' : SinkTold) : Type 0 where
   pub reason : OnHalt result (Rose shelf.faults shelf'.faults) (Rose sink.faults sink'.faults)
   pub shelf_stays : shelf.faults ≤ shelf'.faults
   pub sink_stays : sink.faults ≤ sink'.faults

@@ -11,7 +11,8 @@ watertight_line triangles = codes "watertight " ++ (decimal triangles ++ codes "
 abbrev pub verdict_line : Verdict → List ℕ
 verdict_line (verdict.Watertight triangles) = watertight_line triangles
 verdict_line (verdict.Crack a b count) =
-    codes "fault: crack " ++ (decimal a ++ (codes " " ++ (decimal b ++ (codes " count " ++ (decimal count ++ codes "\n")))))
+    codes "fault: crack " ++
+    (decimal a ++ (codes " " ++ (decimal b ++ (codes " count " ++ (decimal count ++ codes "\n")))))
 verdict_line (verdict.Tilted face) = codes "fault: tilted face " ++ (decimal face ++ codes "\n")
 verdict_line (verdict.Bad line) = codes "fault: bad line " ++ (decimal line ++ codes "\n")
 verdict_line verdict.NoMemory = []

@@ -42,7 +42,8 @@ pub(crate) fn draw(
     requires x { IsViewed viewer.now.x }
     requires y { IsViewed viewer.now.y }
     ensures text { IfOk result (λ drawn. drawn.text.items ≡ whole_text k levels viewer.now.x viewer.now.y grid.now) }
-    ensures line { IfOk result (λ drawn. string_bytes drawn.line ≡ whole_line k levels viewer.now.x viewer.now.y grid.now) }
+    ensures line { IfOk result (λ drawn. string_bytes drawn.line
+        ≡ whole_line k levels viewer.now.x viewer.now.y grid.now) }
 {
     let actives = whole_regions(k, levels, viewer);
     let mesh = grid_mesh(alloc, k, &actives, grid)?;

@@ -48,4 +48,5 @@ on_side border vertices pair =
 -- the edges of a pair among these close
 unfoldable pub is_closed_pair : Region → List Vertex → List ℕ → ℕ → Bool
 is_closed_pair border vertices keys pair =
-    is_closed_by (count_by (λ key. key == 2 * pair) keys) (count_by (λ key. key == 2 * pair + 1) keys) (on_side border vertices pair)
+    is_closed_by (count_by (λ key. key == 2 * pair) keys) (count_by (λ key. key == 2 * pair + 1) keys)
+    (on_side border vertices pair)

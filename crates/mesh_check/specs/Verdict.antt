@@ -52,7 +52,8 @@ closed_verdict lists =
 unfoldable pub open_verdict : Lists → Option (ℕ × ℕ) → Verdict
 open_verdict lists None = closed_verdict lists
 open_verdict lists (Some pair) =
-    Crack (pair.0 + 1) (pair.1 + 1) (edge_count lists.triangles pair.0 pair.1 + edge_count lists.triangles pair.1 pair.0)
+    Crack (pair.0 + 1) (pair.1 + 1)
+    (edge_count lists.triangles pair.0 pair.1 + edge_count lists.triangles pair.1 pair.0)
 
 -- the verdict of lists
 unfoldable pub verdict_of_lists : Lists → Verdict

@@ -49,7 +49,8 @@ WholeRow =
 abbrev pub CutRow : Type 0
 CutRow =
     (gap active : Region) (j : ℤ) → HasHole active gap → (int_le gap.y0 j && int_le j gap.y1) ≡ true →
-    ring_row gap active j ≡ run active.x0 j (int_gap active.x0 gap.x0) ++ run (gap.x1 +ℤ pos 1) j (int_gap gap.x1 active.x1)
+    ring_row gap active j
+    ≡ run active.x0 j (int_gap active.x0 gap.x0) ++ run (gap.x1 +ℤ pos 1) j (int_gap gap.x1 active.x1)
 
 -- a cell of a hole stands at a cell of the finer region
 abbrev pub HoleCells : Type 0
@@ -72,12 +73,14 @@ FirstRing = (actives : List Region) → IsBefore actives 0 no_ring
 -- each level's ring comes after that of the next finer level, and stands before the next coarser level
 abbrev pub NextLinked : Type 0
 NextLinked =
-    (actives : List Region) (level : ℕ) (finer : Ring) → AreActive actives → level < length actives → IsBefore actives level finer →
+    (actives : List Region) (level : ℕ) (finer : Ring) → AreActive actives → level < length actives
+    → IsBefore actives level finer →
     AreLinked finer (next_ring finer (active_at actives level))
 
 abbrev pub NextRing : Type 0
 NextRing =
-    (actives : List Region) (level : ℕ) (finer : Ring) → AreActive actives → level < length actives → IsBefore actives level finer →
+    (actives : List Region) (level : ℕ) (finer : Ring) → AreActive actives → level < length actives
+    → IsBefore actives level finer →
     IsBefore actives (level + 1) (next_ring finer (active_at actives level))
 
 -- a ring lists at most 255 times 255 vertices
@@ -87,7 +90,8 @@ RingSize = (ring : Ring) → IsRing ring → ring_size ring ≤ 65025
 -- the cells of an active region lie within 2^23 samples of the mosaic's corner
 abbrev pub ActivesReach : Type 0
 ActivesReach =
-    (actives : List Region) (level : ℕ) → AreActive actives → level < length actives → IsInReach level (active_at actives level)
+    (actives : List Region) (level : ℕ) → AreActive actives → level < length actives
+    → IsInReach level (active_at actives level)
 
 -- and so does the sample at each of its cells
 abbrev pub CellsReach : Type 0
@@ -115,15 +119,18 @@ UnstitchedNames =
 -- there are fewer than 2^31 vertices and triangles
 abbrev pub FewVertices : Type 0
 FewVertices =
-    (terrain : Terrain) (k : ℕ) (actives : List Region) → AreActive actives → length (mesh_vertices terrain k actives) < 2 ^ 31
+    (terrain : Terrain) (k : ℕ) (actives : List Region) → AreActive actives
+    → length (mesh_vertices terrain k actives) < 2 ^ 31
 
 abbrev pub FewTriangles : Type 0
 FewTriangles =
-    (terrain : Terrain) (k : ℕ) (actives : List Region) → AreActive actives → length (mesh terrain k actives).triangles < 2 ^ 31
+    (terrain : Terrain) (k : ℕ) (actives : List Region) → AreActive actives
+    → length (mesh terrain k actives).triangles < 2 ^ 31
 
 abbrev pub FewRingTriangles : Type 0
 FewRingTriangles =
-    (terrain : Terrain) (k : ℕ) (actives : List Region) → AreActive actives → length (unstitched terrain k actives).triangles < 2 ^ 31
+    (terrain : Terrain) (k : ℕ) (actives : List Region) → AreActive actives
+    → length (unstitched terrain k actives).triangles < 2 ^ 31
 
 -- no vertex lies farther from height 0 than 2^20 thirty-seconds of a metre
 abbrev pub HeightsAreSmall : Type 0
@@ -135,7 +142,8 @@ HeightsAreSmall =
 abbrev pub PartSquares : Type 0
 PartSquares =
     (vertices : List Vertex) (level : ℕ) (finer active : Region) →
-    map (λ part. part.triangles) (square_parts vertices level finer active) ≡ map (triangles_in vertices level) (part_squares finer active)
+    map (λ part. part.triangles) (square_parts vertices level finer active)
+    ≡ map (triangles_in vertices level) (part_squares finer active)
 
 -- the squares of the hole and those of the parts are together the squares of the active region, each once
 abbrev pub SquaresOnce : Type 0

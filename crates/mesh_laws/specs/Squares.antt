@@ -6,7 +6,8 @@ use Rattle.mesh_model.specs.declared.shapes.Vertex.{Vertex}
 use Rattle.mesh_model.specs.Vertices.{hole}
 use Rattle.mesh_model.specs.Parts.{corners_at, squares_in, square_triangles}
 
--- the squares of each part of an active region: all of them where it has no hole, else those north, west, east and south of it
+-- the squares of each part of an active region: all of them where it has no hole, else those north, west, east and
+-- south of it
 unfoldable pub part_squares : Region → Region → List Region
 part_squares finer active =
     let gap = hole finer in

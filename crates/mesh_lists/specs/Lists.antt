@@ -1,4 +1,5 @@
--- The lists of a text: its vertices, its triangles and the region that its last level covers; or its first bad line, counted from 1.
+-- The lists of a text: its vertices, its triangles and the region that its last level covers; or its first bad line,
+-- counted from 1.
 use Rattle.std.specs.Prelude.{◌≡◌, ℕ, zero, suc, ◌+◌, ◌^◌, Bool, not, ◌&&◌, ◌==◌, if◌then◌else◌, nat_lt, IsTrue, ◌<◌, ◌≤◌, ℤ, pos, neg_ℤ, ◌≤ℤ◌, int_le, All, slice_index, List, [], ◌∷◌, length, drop, slice_index_or, Option, Some, is_some, option_and_then, Result, Ok, Err}
 use Rattle.clip_regions.specs.declared.region.Region.{Region}
 use Rattle.mesh_model.specs.declared.shapes.Vertex.{Vertex}
@@ -8,7 +9,8 @@ use Rattle.mesh_lists.specs.declared.lists.ListsFault.{ListsFault}
 use Rattle.mesh_lists.specs.declared.lists.ListsFault.TheVariants.{BadLine, NoMemory}
 use Rattle.mesh_lists.specs.Says.{are_apart, frame_of, viewer_of, level_of, kept_of, vertex_of, triangle_of, where_true}
 
--- vertices, triangles as the places of three vertices each, counted from 0, and what the coarsest level covers, by positions
+-- vertices, triangles as the places of three vertices each, counted from 0, and what the coarsest level covers, by
+-- positions
 pub record Lists : Type 0 where
   pub vertices : List Vertex
   pub triangles : List (List ℕ)
@@ -100,13 +102,15 @@ abbrev pub bad_at : ℕ → Result Lists ℕ → Result Lists ℕ
 bad_at number (Ok lists) = Err number
 bad_at number (Err line) = Err line
 
--- the lists of some lines behind so many, where what stands behind them is empty: a last line without its line feed is bad
+-- the lists of some lines behind so many, where what stands behind them is empty: a last line without its line feed is
+-- bad
 unfoldable pub ended : ℕ → List (List ℕ) → List ℕ → Result Lists ℕ → Result Lists ℕ
 ended before lines rest lists = if length rest == 0 then lists else bad_at (before + length lines + 1) lists
 
 -- the lists of a text by the text behind its head of so many lines
 abbrev pub lists_behind : ℕ → Region → List ℕ → Result Lists ℕ
-lists_behind head border text = ended head (whole_lines text) (cut_line text) (body_lists head border (whole_lines text))
+lists_behind head border text =
+    ended head (whole_lines text) (cut_line text) (body_lists head border (whole_lines text))
 
 -- the lists of a text
 unfoldable pub lists_of_text : List ℕ → Result Lists ℕ

@@ -78,7 +78,8 @@ level_words level (number ∷ more) = option_and_then (λ _. active_words more) 
 -- `# level l active x0 y0 x1 y1` or `# level l empty`, for this level
 unfoldable pub level_of : ℕ → List ℕ → Option Region
 level_of level line =
-    option_and_then (λ more. option_and_then (level_words level) (behind (codes "level") more)) (behind (codes "#") (words line))
+    option_and_then (λ more. option_and_then (level_words level) (behind (codes "level") more))
+    (behind (codes "#") (words line))
 
 -- `P of Q`
 unfoldable pub two_counts : List (List ℕ) → Option (ℕ × ℕ)
@@ -89,7 +90,8 @@ two_counts _ = None
 
 -- `# kept P of Q`
 unfoldable pub kept_of : List ℕ → Option (ℕ × ℕ)
-kept_of line = option_and_then (λ more. option_and_then two_counts (behind (codes "kept") more)) (behind (codes "#") (words line))
+kept_of line =
+    option_and_then (λ more. option_and_then two_counts (behind (codes "kept") more)) (behind (codes "#") (words line))
 
 -- five digits, as the number that they make: behind a 1 they spell a number from 100,000 to 199,999
 unfoldable pub five_of : List ℕ → Option ℕ

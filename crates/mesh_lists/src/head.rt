@@ -397,7 +397,8 @@ pub(crate) struct Head<'a> {
 fn head_behind(count: u32, border: Region, text: &[u8]) -> Head<'_>
     requires small { count ≤ 2 ^ 28 }
     ensures lists { let lines = whole_lines text.now in let kept = kept_lines lines in
-        body_lists (2 + count + kept) border (drop kept lines) ≡ body_lists result.lines result.border (whole_lines result.text.now) }
+        body_lists (2 + count + kept) border (drop kept lines)
+        ≡ body_lists result.lines result.border (whole_lines result.text.now) }
     ensures left { (before : List ℕ) → LeavesBehind (2 + count) before text.now
         → LeavesBehind result.lines before result.text.now }
 {

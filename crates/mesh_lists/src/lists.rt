@@ -37,7 +37,8 @@ impl Model for TextLists {
 
     ghost view = { λ t. record { vertices = t.vertices.items; triangles = t.triangles.items; border = t.border } };
 
-    ghost invariant = { λ t. AreLists (record { vertices = t.vertices.items; triangles = t.triangles.items; border = t.border }) };
+    ghost invariant = { λ t. AreLists
+        (record { vertices = t.vertices.items; triangles = t.triangles.items; border = t.border }) };
 }
 
 impl TextLists {

@@ -17,7 +17,8 @@ unfoldable pub triangles_of : List PartTriangles → List (List ℕ)
 triangles_of added = flat_map (λ part. part.triangles) added
 
 -- the parts stand in the two lists after what was there
-pub record Adds (vertices : List Vertex) (added : List PartTriangles) (triangles : List (List ℕ)) (parts : List Part) (triangles' : List (List ℕ)) (parts' : List Part) : Type 0 where
+pub record Adds (vertices : List Vertex) (added : List PartTriangles) (triangles : List (List ℕ)) (parts : List Part)
+    (triangles' : List (List ℕ)) (parts' : List Part) : Type 0 where
   pub triangles_are : triangles' ≡ triangles ++ triangles_of added
   pub parts_are : parts' ≡ parts ++ parts_from vertices (length triangles) added
 
@@ -58,6 +59,10 @@ parts_around level finer ring =
     ∷ []
 
 -- the rings of the levels below this one are made, and those from it on are left
-pub record IsUnderWay (vertices : List Vertex) (actives : List Region) (level : ℕ) (finer : Ring) (triangles : List (List ℕ)) (parts : List Part) : Type 0 where
+pub record IsUnderWay (vertices : List Vertex) (actives : List Region) (level : ℕ) (finer : Ring)
+    (triangles : List (List ℕ)) (parts : List Part) : Type 0 where
   pub before : IsBefore actives level finer
-  pub left : Adds vertices (ring_parts_from level finer (drop level actives)) triangles parts (mesh_of_parts vertices (ring_parts_from 0 no_ring actives)).triangles (mesh_of_parts vertices (ring_parts_from 0 no_ring actives)).parts
+  pub left :
+      Adds vertices (ring_parts_from level finer (drop level actives)) triangles parts
+      (mesh_of_parts vertices (ring_parts_from 0 no_ring actives)).triangles
+      (mesh_of_parts vertices (ring_parts_from 0 no_ring actives)).parts

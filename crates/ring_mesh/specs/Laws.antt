@@ -26,4 +26,5 @@ FewFirst =
 abbrev pub FewRest : Type 0
 FewRest =
     (vertices : List Vertex) (ps qs : List PartTriangles) (t t1 : List (List ℕ)) (p p1 : List Part) (m : ℕ) →
-    Adds vertices ps t p t1 p1 → length t + length (triangles_of (ps ++ qs)) < m → length t1 + length (triangles_of qs) < m
+    Adds vertices ps t p t1 p1 → length t + length (triangles_of (ps ++ qs)) < m
+    → length t1 + length (triangles_of qs) < m

@@ -44,6 +44,9 @@ unfoldable pub ring_cells : Ring → List (ℤ × ℤ)
 ring_cells ring = flat_map (ring_row ring.hole ring.active) (numbers_from ring.active.y0 (rows ring.active))
 
 -- the vertices of the levels below this one are listed, and those from it on are left
-pub record IsListed (terrain : Terrain) (k : ℕ) (actives : List Region) (level : ℕ) (finer : Ring) (vertices : List Vertex) : Type 0 where
+pub record IsListed (terrain : Terrain) (k : ℕ) (actives : List Region) (level : ℕ) (finer : Ring)
+    (vertices : List Vertex) : Type 0 where
   pub before : IsBefore actives level finer
-  pub left : vertices ++ map (vertex_at terrain k actives) (listed_from level finer.active (drop level actives)) ≡ mesh_vertices terrain k actives
+  pub left :
+      vertices ++ map (vertex_at terrain k actives) (listed_from level finer.active (drop level actives))
+      ≡ mesh_vertices terrain k actives

@@ -18,4 +18,5 @@ pub record HasSquares (r squares : Region) : Type 0 where
 -- the triangles of row v of these squares, from the west
 unfoldable pub square_row : Ring → Ring → Region → ℕ → List (List ℕ)
 square_row finer ring squares v =
-    flat_map (λ u. ring_square finer ring (squares.x0 +ℤ pos u) (squares.y0 +ℤ pos v)) (range_with_len 0 (columns squares))
+    flat_map (λ u. ring_square finer ring (squares.x0 +ℤ pos u) (squares.y0 +ℤ pos v))
+    (range_with_len 0 (columns squares))

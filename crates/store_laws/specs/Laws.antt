@@ -9,13 +9,15 @@ use Rattle.store_model.specs.Faults.{HasStoreFault}
 -- no bytes stand for two terrains, or by two headers
 abbrev pub OneTerrain : Type 0
 OneTerrain =
-    (head other : Head) (terrain second : Terrain) (bytes : List ℕ) → IsStore head terrain bytes → IsStore other second bytes
+    (head other : Head) (terrain second : Terrain) (bytes : List ℕ) → IsStore head terrain bytes
+    → IsStore other second bytes
     → (head ≡ other) × (terrain ≡ second)
 
 -- a store has no fault
 abbrev pub StoreHasNoFault : Type 0
 StoreHasNoFault =
-    (head : Head) (terrain : Terrain) (bytes : List ℕ) (fault : StoreFault) → IsStore head terrain bytes → HasStoreFault bytes fault → ⊥
+    (head : Head) (terrain : Terrain) (bytes : List ℕ) (fault : StoreFault) → IsStore head terrain bytes
+    → HasStoreFault bytes fault → ⊥
 
 -- no bytes have two first faults
 abbrev pub OneFirstFault : Type 0

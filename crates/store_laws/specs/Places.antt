@@ -16,7 +16,9 @@ HasFaultAt head coarser level k bytes rest (BadBlock l bx by fault) =
     (l ≡ level) × (bx ≡ block_column head.width level k) × (by ≡ block_row head.width level k)
     × OpensWithBlock rest (λ content. HasBlockFault (level + 1 == head.levels) (region_of head level k) content fault)
 HasFaultAt head coarser level k bytes rest (OutOfRange l i j value) =
-    (l ≡ level) × (level + 1 < head.levels) × OpensWithBlock rest (λ content. HasValueOut coarser head.step (region_of head level k) content (pos i) (pos j) value)
+    (l ≡ level) × (level + 1 < head.levels)
+    × OpensWithBlock rest
+    (λ content. HasValueOut coarser head.step (region_of head level k) content (pos i) (pos j) value)
 HasFaultAt head coarser level k bytes rest (Excess offset) = ⊥
 HasFaultAt head coarser level k bytes rest NoMemory = ⊥
 

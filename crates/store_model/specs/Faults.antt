@@ -47,16 +47,19 @@ IsBadField head Width = ¬ IsSide head.width
 IsBadField head Height = IsSide head.width × (¬ IsSide head.height)
 IsBadField head Samples = IsSide head.width × IsSide head.height × (2 ^ 26 < head.width * head.height)
 IsBadField head LevelCount =
-    IsSide head.width × IsSide head.height × (head.width * head.height ≤ 2 ^ 26) × (¬ ((1 ≤ head.levels) × (head.levels ≤ 12)))
+    IsSide head.width × IsSide head.height × (head.width * head.height ≤ 2 ^ 26)
+    × (¬ ((1 ≤ head.levels) × (head.levels ≤ 12)))
 IsBadField head Step =
-    IsSide head.width × IsSide head.height × (head.width * head.height ≤ 2 ^ 26) × ((1 ≤ head.levels) × (head.levels ≤ 12)) × (head.step % 2 ≡ 0)
+    IsSide head.width × IsSide head.height × (head.width * head.height ≤ 2 ^ 26)
+    × ((1 ≤ head.levels) × (head.levels ≤ 12)) × (head.step % 2 ≡ 0)
 
 -- ---- a block
 
 -- the number of a block's bytes, or bytes that it announces, aren't all there
 abbrev pub IsCutEntry : List ℕ → Type 0
 IsCutEntry rest =
-    (length rest < 2) ⊎ ((high low : ℕ) × (after : List ℕ) × (rest ≡ high ∷ low ∷ after) × (length after < 256 * high + low))
+    (length rest < 2)
+    ⊎ ((high low : ℕ) × (after : List ℕ) × (rest ≡ high ∷ low ∷ after) × (length after < 256 * high + low))
 
 -- the fault of a plain block of so many cells: too few or too many bytes
 abbrev pub HasPlainFault : ℕ → List ℕ → BlockFault → Type 0
@@ -80,9 +83,12 @@ pub record IsFirstOut (coarser code : ℤ → ℤ → ℤ) (step : ℕ) (region 
   pub inside : IsTrue (contains region i j)
   pub value_is : value ≡ value_of coarser step i j (code i j)
   pub far : ¬ IsNear step value
-  pub first : (a b : ℤ) → IsTrue (contains region a b) → ComesBefore a b i j → IsNear step (value_of coarser step a b (code a b))
+  pub first :
+      (a b : ℤ) → IsTrue (contains region a b) → ComesBefore a b i j
+      → IsNear step (value_of coarser step a b (code a b))
 
--- the header is sound, the levels before this one and k blocks of it are whole, and what follows is so, over the heights so far
+-- the header is sound, the levels before this one and k blocks of it are whole, and what follows is so, over the
+-- heights so far
 pub record AtBlock (head : Head) (level k : ℕ) (bytes : List ℕ) (P : Levels → List ℕ → Type 0) : Type 0 where
   pub sound : IsSoundHead head
   pub level_below : level < head.levels
@@ -118,10 +124,14 @@ pub record IsBadBlock (bytes : List ℕ) (level bx by : ℕ) (fault : BlockFault
   pub k : ℕ
   pub column : bx ≡ block_column head.width level k
   pub row : by ≡ block_row head.width level k
-  pub at : AtBlock head level k bytes (λ heights rest. OpensWithBlock rest (λ content. HasBlockFault (level + 1 == head.levels) (region_of head level k) content fault))
+  pub at :
+      AtBlock head level k bytes
+      (λ heights rest.
+      OpensWithBlock rest (λ content. HasBlockFault (level + 1 == head.levels) (region_of head level k) content fault))
 
 -- a block that is a word of codes, with a value that is out of range
-pub record HasValueOut (coarser : ℤ → ℤ → ℤ) (step : ℕ) (region : Region) (bytes : List ℕ) (i j value : ℤ) : Type 0 where
+pub record HasValueOut (coarser : ℤ → ℤ → ℤ) (step : ℕ) (region : Region) (bytes : List ℕ)
+    (i j value : ℤ) : Type 0 where
   pub code : ℤ → ℤ → ℤ
   pub coding : IsCoding code region bytes
   pub out : IsFirstOut coarser code step region i j value
@@ -130,7 +140,11 @@ pub record IsOutOfRange (bytes : List ℕ) (level i j : ℕ) (value : ℤ) : Typ
   pub head : Head
   pub k : ℕ
   pub words : level + 1 < head.levels
-  pub at : AtBlock head level k bytes (λ heights rest. OpensWithBlock rest (λ content. HasValueOut (heights (level + 1)) head.step (region_of head level k) content (pos i) (pos j) value))
+  pub at :
+      AtBlock head level k bytes
+      (λ heights rest.
+      OpensWithBlock rest
+      (λ content. HasValueOut (heights (level + 1)) head.step (region_of head level k) content (pos i) (pos j) value))
 
 pub record HasExcess (bytes : List ℕ) (offset : ℕ) : Type 0 where
   pub head : Head
@@ -146,7 +160,8 @@ pub record HasExcess (bytes : List ℕ) (offset : ℕ) : Type 0 where
 -- the first fault of bytes that are no store
 abbrev pub HasStoreFault : List ℕ → StoreFault → Type 0
 HasStoreFault bytes BadMagic = (¬ BeginsAs 1 bytes) × (¬ BeginsAs 2 bytes)
-HasStoreFault bytes (BadHeader field) = (head : Head) × (rest : List ℕ) × OpensWithHead head bytes rest × IsBadField head field
+HasStoreFault bytes (BadHeader field) =
+    (head : Head) × (rest : List ℕ) × OpensWithHead head bytes rest × IsBadField head field
 HasStoreFault bytes (CutShort offset) = (offset ≡ length bytes) × (IsCutHead bytes ⊎ IsCutAtBlock bytes)
 HasStoreFault bytes (BadBlock level bx by fault) = IsBadBlock bytes level bx by fault
 HasStoreFault bytes (OutOfRange level i j value) = IsOutOfRange bytes level i j value

@@ -32,7 +32,8 @@ RestoredByOne =
 abbrev pub CanonicalWordBlock : Type 0
 CanonicalWordBlock =
     (terrain : Terrain) (levels step level k : ℕ) → IsTerrain terrain → IsStep step → level + 1 < levels
-    → IsWordBlock (restored_height terrain levels step (level + 1)) (restored_height terrain levels step level) step (block_region terrain.width terrain.height level k) (canonical_block terrain levels step level k)
+    → IsWordBlock (restored_height terrain levels step (level + 1)) (restored_height terrain levels step level) step
+    (block_region terrain.width terrain.height level k) (canonical_block terrain levels step level k)
 
 -- the restored terrain is a terrain
 abbrev pub RestoredIsTerrain : Type 0
@@ -48,8 +49,10 @@ RestoredLevels =
 -- a canonical store is a store of the restored terrain
 abbrev pub CanonicalStore : Type 0
 CanonicalStore =
-    (version : ℕ) (terrain : Terrain) (levels step : ℕ) → IsTerrain terrain → 1 ≤ levels → levels ≤ 12 → IsVersion version step
-    → IsStore (head_of version terrain levels step) (restored_terrain terrain levels step) (canonical_store version terrain levels step)
+    (version : ℕ) (terrain : Terrain) (levels step : ℕ) → IsTerrain terrain → 1 ≤ levels → levels ≤ 12
+    → IsVersion version step
+    → IsStore (head_of version terrain levels step) (restored_terrain terrain levels step)
+    (canonical_store version terrain levels step)
 
 -- by the step 1 the restored terrain is the terrain, so a canonical store is a store of the terrain itself
 abbrev pub RestoredTerrainByOne : Type 0

@@ -10,7 +10,8 @@ use Rattle.store_model.specs.Sizes.{level_region, block_count, block_region}
 use Rattle.store_model.specs.Blocks.{is_coded, coded_values, plain_bytes}
 use Rattle.store_model.specs.Format.{Head, head_bytes, entry}
 
--- a height that is restored over the coarser heights: the value of its code, brought to 16 bits; a cell with even coordinates takes the coarser height
+-- a height that is restored over the coarser heights: the value of its code, brought to 16 bits; a cell with even
+-- coordinates takes the coarser height
 unfoldable pub restored_cell : (ℤ → ℤ → ℤ) → ℕ → ℤ → ℤ → ℤ → ℤ
 restored_cell coarser step i j height =
     if is_coded i j
@@ -34,24 +35,31 @@ unfoldable pub restored_terrain : Terrain → ℕ → ℕ → Terrain
 restored_terrain terrain levels step = record {
   width = terrain.width;
   height = terrain.height;
-  table = map (λ n. restored_height terrain levels step 0 (pos (n % terrain.width)) (pos (n / terrain.width))) (range_with_len 0 (terrain.width * terrain.height));
+  table = map (λ n. restored_height terrain levels step 0 (pos (n % terrain.width)) (pos (n / terrain.width)))
+      (range_with_len 0 (terrain.width * terrain.height));
 }
 
--- block k of a level: its heights as they are at the coarsest level, and else the canonical word of its codes over the restored coarser heights
+-- block k of a level: its heights as they are at the coarsest level, and else the canonical word of its codes over the
+-- restored coarser heights
 unfoldable pub canonical_block : Terrain → ℕ → ℕ → ℕ → ℕ → List ℕ
 canonical_block terrain levels step level k =
     if level + 1 == levels
     then plain_bytes (level_height terrain level) (block_region terrain.width terrain.height level k)
-    else canonical_word (coded_values (λ i j. code_of (restored_height terrain levels step (level + 1)) step i j (level_height terrain level i j)) (block_region terrain.width terrain.height level k))
+    else canonical_word
+    (coded_values
+    (λ i j. code_of (restored_height terrain levels step (level + 1)) step i j (level_height terrain level i j))
+    (block_region terrain.width terrain.height level k))
 
 -- the blocks of a level
 unfoldable pub canonical_level : Terrain → ℕ → ℕ → ℕ → List ℕ
 canonical_level terrain levels step level =
-    flat_map (λ k. entry (canonical_block terrain levels step level k)) (range_with_len 0 (block_count terrain.width terrain.height level))
+    flat_map (λ k. entry (canonical_block terrain levels step level k))
+    (range_with_len 0 (block_count terrain.width terrain.height level))
 
 -- the header of a terrain's store
 abbrev pub head_of : ℕ → Terrain → ℕ → ℕ → Head
-head_of version terrain levels step = record { version = version; width = terrain.width; height = terrain.height; levels = levels; step = step }
+head_of version terrain levels step =
+    record { version = version; width = terrain.width; height = terrain.height; levels = levels; step = step }
 
 -- the canonical store of a terrain: the header, and the levels from the coarsest
 unfoldable pub canonical_store : ℕ → Terrain → ℕ → ℕ → List ℕ

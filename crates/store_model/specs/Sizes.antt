@@ -23,7 +23,8 @@ level_region width height level = record {
 unfoldable pub block_count : ℕ → ℕ → ℕ → ℕ
 block_count width height level = blocks_on (cells_on width level) * blocks_on (cells_on height level)
 
--- the blocks of a level are counted row by row from the north, and each row from the west: the column and the row of block k
+-- the blocks of a level are counted row by row from the north, and each row from the west: the column and the row of
+-- block k
 unfoldable pub block_column : ℕ → ℕ → ℕ → ℕ
 block_column width level k = k % blocks_on (cells_on width level)
 

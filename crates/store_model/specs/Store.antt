@@ -20,7 +20,8 @@ region_of head level k = block_region head.width head.height level k
 -- the block's bytes stand for its heights: at the coarsest level, and at the others over the next coarser one
 abbrev pub IsBlockOf : Bool → Head → Levels → ℕ → ℕ → List ℕ → Type 0
 IsBlockOf true head heights level k bytes = bytes ≡ plain_bytes (heights level) (region_of head level k)
-IsBlockOf false head heights level k bytes = IsWordBlock (heights (level + 1)) (heights level) head.step (region_of head level k) bytes
+IsBlockOf false head heights level k bytes =
+    IsWordBlock (heights (level + 1)) (heights level) head.step (region_of head level k) bytes
 
 abbrev pub IsBlock : Head → Levels → ℕ → ℕ → List ℕ → Type 0
 IsBlock head heights level k bytes = IsBlockOf (level + 1 == head.levels) head heights level k bytes
@@ -42,7 +43,8 @@ pub record IsLevel (head : Head) (heights : Levels) (level : ℕ) (bytes : List 
 abbrev pub IsFront : Head → Levels → ℕ → List ℕ → Type 0
 IsFront head heights zero bytes = bytes ≡ head_bytes head
 IsFront head heights (suc n) bytes =
-    (before : List ℕ) × (level : List ℕ) × IsFront head heights n before × IsLevel head heights (head.levels - suc n) level × (bytes ≡ before ++ level)
+    (before : List ℕ) × (level : List ℕ) × IsFront head heights n before
+    × IsLevel head heights (head.levels - suc n) level × (bytes ≡ before ++ level)
 
 -- the bytes stand for the terrain, with so many levels, by this version and step
 pub record IsStore (head : Head) (terrain : Terrain) (bytes : List ℕ) : Type 0 where

@@ -28,14 +28,16 @@ pub enum StoreFault {
     CutShort {
         offset: u64,
     },
-    /// The bytes of a block, in column `bx` and row `by` of the level's blocks, are no word of its codes or not its heights.
+    /// The bytes of a block, in column `bx` and row `by` of the level's blocks, are no word of its codes or not its
+    /// heights.
     BadBlock {
         level: u8,
         bx: u32,
         by: u32,
         fault: BlockFault,
     },
-    /// The cell in column `i` and row `j` of the level is the first of its block whose value, in metres, is no height of 16
+    /// The cell in column `i` and row `j` of the level is the first of its block whose value, in metres, is no height
+    /// of 16
     /// bits and not within half a step of one.
     OutOfRange {
         level: u8,

@@ -16,7 +16,8 @@ pub fn restored_heights()
     four_point::values_are_near();
 }
 
-/// A canonical block of a level that isn't the coarsest stands for the restored heights, over the restored coarser ones.
+/// A canonical block of a level that isn't the coarsest stands for the restored heights, over the restored coarser
+/// ones.
 pub fn canonical_blocks()
     ensures { CanonicalWordBlock }
 {

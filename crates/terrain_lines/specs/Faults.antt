@@ -35,7 +35,8 @@ block_number (word.Excess bytes) = bytes
 abbrev pub block_words : ℕ → ℕ → ℕ → List ℕ → ℕ → List ℕ
 block_words level bx by name number =
     codes "fault: store BadBlock "
-    ++ (decimal level ++ (codes " " ++ (decimal bx ++ (codes " " ++ (decimal by ++ (codes " " ++ (name ++ (codes " " ++ (decimal number ++ codes "\n")))))))))
+    ++ (decimal level ++ (codes " " ++ (decimal bx ++ (codes " " ++ (decimal by
+    ++ (codes " " ++ (name ++ (codes " " ++ (decimal number ++ codes "\n")))))))))
 
 abbrev pub block_line : ℕ → ℕ → ℕ → BlockFault → List ℕ
 block_line level bx by fault = block_words level bx by (block_name fault) (block_number fault)
@@ -48,6 +49,7 @@ store_fault_line (store.CutShort offset) = codes "fault: store CutShort " ++ (de
 store_fault_line (store.BadBlock level bx by fault) = block_line level bx by fault
 store_fault_line (store.OutOfRange level i j value) =
     codes "fault: store OutOfRange "
-    ++ (decimal level ++ (codes " " ++ (decimal i ++ (codes " " ++ (decimal j ++ (codes " " ++ (signed_decimal value ++ codes "\n")))))))
+    ++ (decimal level ++ (codes " " ++ (decimal i ++ (codes " " ++ (decimal j
+    ++ (codes " " ++ (signed_decimal value ++ codes "\n")))))))
 store_fault_line (store.Excess offset) = codes "fault: store Excess " ++ (decimal offset ++ codes "\n")
 store_fault_line store.NoMemory = []
