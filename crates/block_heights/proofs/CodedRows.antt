@@ -4,7 +4,7 @@ use Rattle.std.specs.List.{flat_map, range_with_len}
 use Rattle.std.proofs.lemmas.Bool.{cases_lt, cases_eq, false≢true}
 use Rattle.std.proofs.lemmas.List.{map-id, map-append, take_more, length_push}
 use Rattle.std.proofs.lemmas.List.Concat.{flat_map-append}
-use Rattle.std.proofs.lemmas.List.FromFn.{filter_of_map_range_with_len_more, map-range_with_len_more}
+use Rattle.std.proofs.lemmas.List.FromFn.{filter_of_map_range_with_len_more}
 use Rattle.clip_regions.specs.declared.region.Region.{Region}
 use Rattle.store_model.specs.Blocks.{is_coded}
 use Rattle.block_heights.specs.Rows.{coded_columns, row_values, table_values, coded_before, IsCodeRow, HasCodes}

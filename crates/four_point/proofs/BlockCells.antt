@@ -1,19 +1,17 @@
 -- The rows of a block's predictions are those of the definition.
-use Rattle.std.proofs.Common.{◌≡◌, ℕ, zero, suc, ℤ, pos, negsuc, ◌+◌, ◌*◌, ◌<◌, ◌+ℤ◌, ◌-ℤ◌, ◌*ℤ◌, ◌≤ℤ◌, List, [], ◌∷◌, map, get_or, sym, ap, subst, ◌∙◌, refl, arith}
-use Rattle.std.specs.List.{range_with_len}
+use Rattle.std.proofs.Common.{◌≡◌, ℕ, ℤ, pos, ◌<◌, ◌+ℤ◌, ◌-ℤ◌, ◌*ℤ◌, List, [], ◌∷◌, get_or, sym, ap, ◌∙◌, refl, arith}
 use Rattle.std.proofs.lemmas.Int.{ints}
 use Rattle.std.proofs.lemmas.List.FromFn.{get_or-map-range_with_len}
 use mathlib.Core.Path.{ap₂}
 use Rattle.clip_regions.specs.FloorDivision.{floor_div, floor_rem}
 use Rattle.clip_regions.proofs.Quotients.{rem_below, quotient_and_rest}
-use Rattle.four_point.specs.Prediction.{weighted, row_sum, column_sum, square_sum, predicted, prediction}
+use Rattle.four_point.specs.Prediction.{weighted, row_sum, column_sum, square_sum, prediction}
 use Rattle.four_point.specs.Patches.{table_height, patch_height}
 use Rattle.four_point.specs.Blocks.{IsLineOf, over_16, over_256, even_cells, middle_cells, row_predictions, ArePredictions}
 use Rattle.four_point.specs.declared.patch.Patch.{Patch}
 use Rattle.four_point.specs.declared.block.Line.{Line}
 use Rattle.four_point.proofs.LawLemmas.{even_rem, even_div}
 use Rattle.four_point.proofs.PredictionLemmas.{even_even, odd_even, even_odd, odd_odd}
-use Rattle.four_point.proofs.AroundLemmas.{weighted_same}
 use Rattle.four_point.proofs.BlockLemmas.{eight_same}
 
 -- ---- one cell

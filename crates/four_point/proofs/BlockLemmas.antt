@@ -1,8 +1,7 @@
 -- Sums and predictions of four columns at once.
-use Rattle.std.proofs.Common.{◌≡◌, ℕ, zero, suc, ℤ, pos, neg_ℤ, ◌+◌, ◌*◌, ◌<◌, ◌≤◌, ◌+ℤ◌, ◌-ℤ◌, ◌*ℤ◌, ◌≤ℤ◌, List, [], ◌∷◌, get_or, sym, ap, ◌∙◌, refl, arith}
+use Rattle.std.proofs.Common.{◌≡◌, ℕ, zero, suc, ℤ, pos, ◌*◌, ◌≤◌, ◌+ℤ◌, List, [], ◌∷◌, get_or, ap, ◌∙◌, arith}
 use Rattle.std.specs.Int.{w16, w32}
 use Rattle.std.proofs.lemmas.Int.{ints, to_z-of_z}
-use mathlib.Core.Path.{ap₂}
 use mir.Val.{SFits, to_z, of_z}
 use Rattle.clip_regions.specs.FloorDivision.{floor_div}
 use Rattle.four_point.specs.Prediction.{weighted}

@@ -1,9 +1,9 @@
-use Rattle.std.proofs.Common.{◌≡◌, pos, ◌+ℤ◌, ◌<ℤ◌, ◌≤ℤ◌, true, false, sym, ◌∙◌, refl, rules}
+use Rattle.std.proofs.Common.{◌≡◌, pos, ◌+ℤ◌, true, false, sym, ◌∙◌, refl, rules}
 use Rattle.std.specs.Int.{w32}
-use Rattle.std.proofs.lemmas.Int.{ints, to_z-of_z}
+use Rattle.std.proofs.lemmas.Int.{to_z-of_z}
 use lib.Signed.{lt_z}
 use mathlib.Core.Path.{ap₂}
-use mir.Val.{SFits, to_z, of_z}
+use mir.Val.{SFits}
 use Rattle.clip_regions.proofs.Cells.{tested_lt, tested_not_lt}
 use Rattle.block_heights.proofs.CodedRows.{read_sum}
 use Rattle.block_heights.proofs.Cells.{cell_next, cell_wraps, cell_same}

@@ -1,6 +1,4 @@
-use Rattle.std.proofs.Common.{ℤ, pos, rules}
-use Rattle.std.specs.Int.{w32}
-use mir.Val.{SFits}
+use Rattle.std.proofs.Common.{rules}
 use Rattle.four_point.specs.Patches.{IsAtMost}
 use Rattle.four_point.proofs.SumLemmas.{same, size_same}
 use Rattle.four_point.proofs.BlockLemmas.{eight_same, of_eight, small_zero, over_16_read, height_is_small}

@@ -1,4 +1,3 @@
-use Rattle.std.proofs.Common.{rules}
 use Rattle.std.specs.Int.{w32}
 use mir.Val.{SFits}
 use Rattle.four_point.proofs.SumLemmas.{size_same}

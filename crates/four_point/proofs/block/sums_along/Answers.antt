@@ -1,5 +1,5 @@
 use Rattle.std.proofs.Common.{get_or, pos, rules}
-use Rattle.std.specs.Int.{w16, w32}
+use Rattle.std.specs.Int.{w16}
 use mir.Val.{SFits}
 use Rattle.four_point.proofs.BlockLemmas.{sum_read_16}
 use Rattle.four_point.proofs.block.sums_along.Goals as goal

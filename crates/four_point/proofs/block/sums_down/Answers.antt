@@ -1,7 +1,4 @@
 use Rattle.std.proofs.Common.{rules}
-use Rattle.std.specs.Int.{w32}
-use mir.Val.{SFits}
-use Rattle.four_point.specs.Blocks.{AreAtMost}
 use Rattle.four_point.proofs.BlockLemmas.{sum_read, sum_size}
 use Rattle.four_point.proofs.block.sums_down.Goals as goal
 
