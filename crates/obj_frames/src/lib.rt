@@ -14,7 +14,7 @@ mod views;
 pub use memory::NoMemory;
 pub use mesh::Mesh;
 pub use mesh_model::{Bounds, Part, PartKind, Vertex};
-pub use text::{Header, frame_text};
+pub use text::{Header, append_head, append_triangles, append_vertices, frame_text};
 pub use views::{Culled, cull, seen_text};
 
 #[cfg(test)]

@@ -34,44 +34,35 @@ fn append_levels(text: &mut Vec<u8>, digits: &mut Buffer, actives: &Actives) -> 
     Ok(())
 }
 
-// Appends the lines at the head.
-pub(crate) fn append_head(
-    text: &mut Vec<u8>,
-    digits: &mut Buffer,
-    header: &Header,
-) -> Result<(), NoMemory>
+/// Appends the lines at the head of a frame's text.
+pub fn append_head(text: &mut Vec<u8>, header: &Header) -> Result<(), NoMemory>
     ensures { OnOk result (text.new.items
         ≡ text.old.items ++ head_text header.now.number header.now.x header.now.y header.now.actives) }
 {
-    append_frame(text, digits, header.number)?;
-    append_viewer(text, digits, header.x, header.y)?;
-    append_levels(text, digits, &header.actives)
+    let mut digits = Buffer::new();
+    append_frame(text, &mut digits, header.number)?;
+    append_viewer(text, &mut digits, header.x, header.y)?;
+    append_levels(text, &mut digits, &header.actives)
 }
 
-// Appends a line for each vertex.
-fn append_vertices(
-    text: &mut Vec<u8>,
-    digits: &mut Buffer,
-    vertices: &[Vertex],
-) -> Result<(), NoMemory>
+/// Appends the line of each vertex.
+pub fn append_vertices(text: &mut Vec<u8>, vertices: &[Vertex]) -> Result<(), NoMemory>
     ensures { OnOk result (text.new.items ≡ text.old.items ++ flat_map vertex_line vertices.now) }
 {
+    let mut digits = Buffer::new();
     for vertex in vertices {
-        append_vertex(text, digits, vertex)?;
+        append_vertex(text, &mut digits, vertex)?;
     }
     Ok(())
 }
 
-// Appends a line for each triangle.
-fn append_triangles(
-    text: &mut Vec<u8>,
-    digits: &mut Buffer,
-    triangles: &[[u32; 3]],
-) -> Result<(), NoMemory>
+/// Appends the line of each triangle, given by the places of its vertices, counted from 0.
+pub fn append_triangles(text: &mut Vec<u8>, triangles: &[[u32; 3]]) -> Result<(), NoMemory>
     ensures { OnOk result (text.new.items ≡ text.old.items ++ flat_map triangle_line triangles.now) }
 {
+    let mut digits = Buffer::new();
     for triangle in triangles {
-        append_triangle(text, digits, triangle)?;
+        append_triangle(text, &mut digits, triangle)?;
     }
     Ok(())
 }
@@ -84,9 +75,8 @@ pub fn frame_text(alloc: Global, mesh: &Mesh, header: &Header) -> Result<Vec<u8>
         ≡ frame_text header.now.number header.now.x header.now.y header.now.actives mesh.now) }
 {
     let mut text = Vec::new(alloc);
-    let mut digits = Buffer::new();
-    append_head(&mut text, &mut digits, header)?;
-    append_vertices(&mut text, &mut digits, mesh.vertices())?;
-    append_triangles(&mut text, &mut digits, mesh.triangles())?;
+    append_head(&mut text, header)?;
+    append_vertices(&mut text, mesh.vertices())?;
+    append_triangles(&mut text, mesh.triangles())?;
     Ok(text)
 }

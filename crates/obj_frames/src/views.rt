@@ -190,7 +190,7 @@ pub fn cull(alloc: Global, mesh: &Mesh, header: &Header, keep: &[bool]) -> Resul
     let kept = kept_parts(alloc, mesh, keep)?;
     let mut text = Vec::new(alloc);
     let mut digits = Buffer::new();
-    append_head(&mut text, &mut digits, header)?;
+    append_head(&mut text, header)?;
     append_kept(
         &mut text,
         &mut digits,
