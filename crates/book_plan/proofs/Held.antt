@@ -18,7 +18,7 @@ use Rattle.plan_model.specs.declared.tiles.TileId.{TileId}
 use Rattle.plan_model.specs.declared.events.JobNote.{JobNote}
 use Rattle.plan_model.specs.declared.events.Work.TheVariants.{Free}
 use Rattle.book_plan.specs.Found.{comes_before, earlier, job_under, first_under}
-use Rattle.book_plan.proofs.Members.{Among, among_at, contained, passed, passing, first_among, mapped, flat, ranged, ranged_of}
+use Rattle.plan_holds.proofs.Members.{Among, among_at, contained, passed, passing, first_among, mapped, flat, ranged, ranged_of}
 use Rattle.book_plan.proofs.Order.{at, Ordered, tiles_ordered, filter_ordered, first_ordered, none_first, not_self, not_back, passes_on}
 
 -- ---- the earliest of what is under a region

@@ -6,7 +6,6 @@ pub mod Marks
 pub mod Flags
 pub mod Shelves
 pub mod Rooms
-pub mod Members
 pub mod Order
 pub mod Held
 pub mod Moved

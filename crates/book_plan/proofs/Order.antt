@@ -9,7 +9,7 @@ use Rattle.plan_model.specs.Blocks.{tiles_per_side}
 use Rattle.plan_model.specs.Tiles.{tiles}
 use Rattle.plan_model.specs.declared.tiles.TileId.{TileId}
 use Rattle.book_plan.specs.Found.{comes_before}
-use Rattle.book_plan.proofs.Members.{Among, passed, either_among, map_of, flat_of, ranged_of}
+use Rattle.plan_holds.proofs.Members.{Among, passed, either_among, map_of, flat_of, ranged_of}
 
 abbrev pub at : ℕ → ℕ → TileId
 at x y = record { tx = x; ty = y }

@@ -46,7 +46,8 @@ earlier (Some u) (Some t) = if comes_before t u then Some t else Some u
 abbrev pub job_under : ℕ → ℕ → Region → Option JobNote → Option TileId
 job_under k level r None = None
 job_under k level r (Some job) =
-    if (job.level == level) && meets_tile k r (tile_of k job.piece.bx job.piece.by) then Some (tile_of k job.piece.bx job.piece.by) else None
+    if (job.level == level) && meets_tile k r (tile_of k job.piece.bx job.piece.by)
+    then Some (tile_of k job.piece.bx job.piece.by) else None
 
 -- the earliest tile of a level that a region meets and that a pass's job has
 unfoldable pub first_under : ℕ → ℕ → Region → List Pass → Option TileId

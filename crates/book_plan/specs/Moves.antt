@@ -21,7 +21,8 @@ used_for k levels viewer level = nat_le (finest_used k levels viewer.a) level
 -- a level of so many stays: its window is the same for both viewers, and it is in use for both or for neither
 unfoldable pub stays_for : ℕ → ℕ → Viewer → Viewer → ℕ → Bool
 stays_for k levels from to level =
-    same_region (window k level from.x from.y) (window k level to.x to.y) && beq (used_for k levels from level) (used_for k levels to level)
+    same_region (window k level from.x from.y) (window k level to.x to.y)
+    && beq (used_for k levels from level) (used_for k levels to level)
 
 -- the current strip of a filled region in its window, where the level is in use
 unfoldable pub strip_where : Bool → Region → Region → Option Region
@@ -31,7 +32,8 @@ strip_where used filled window = if used then current_strip filled window else N
 pub record IsRoomy (window : Region) : Type 0 where
   pub planned : (r : Region) → IsTrue (holds window r) → IsPlanned r
   pub few : (r : Region) → IsTrue (holds window r) → length (pieces r) ≤ 1089
-  pub strips : (filled strip : Region) → IsFilledIn filled window → current_strip filled window ≡ Some strip → IsTrue (holds window strip)
+  pub strips : (filled strip : Region) → IsFilledIn filled window → current_strip filled window ≡ Some strip →
+      IsTrue (holds window strip)
 
 -- a level with this filled region and plan number, of which no piece is finished
 abbrev pub filled_shelf : Bool → Region → ℕ → Region → Shelf
@@ -49,7 +51,8 @@ moved_shelf stays used window old =
 -- one of some levels after a move
 abbrev pub moved_from : ℕ → Viewer → Viewer → List Shelf → ℕ → Shelf
 moved_from k from to levels level =
-    moved_shelf (stays_for k (length levels) from to level) (used_for k (length levels) to level) (window k level to.x to.y) (slice_index_or levels level empty_shelf)
+    moved_shelf (stays_for k (length levels) from to level) (used_for k (length levels) to level)
+    (window k level to.x to.y) (slice_index_or levels level empty_shelf)
 
 -- the viewer of a desk
 abbrev pub viewer_of : Desk → Viewer

@@ -3,7 +3,8 @@
 ghost use Rattle.std.specs.Prelude.{◌≡◌, ◌+◌, ◌<◌, ◌≤◌, not, filter, length, slice_index_or, IfSome};
 ghost use Rattle.plan_model.specs.Strips.{first_of};
 ghost use Rattle.plan_model.specs.States.{is_whole, used_from_coarsest};
-ghost use Rattle.plan_model.specs.Claims.{held_answer, busy_answer, needed_answer, blocked, unfinished_pieces, ripe_or_blocked, no_offer};
+ghost use Rattle.plan_model.specs.Claims.{held_answer, busy_answer, needed_answer, blocked, unfinished_pieces};
+ghost use Rattle.plan_model.specs.Claims.{ripe_or_blocked, no_offer};
 ghost use Rattle.book_plan.specs.Slots.{open_pieces, empty_shelf};
 ghost use Rattle.book_plan.specs.Desks.{state_of, IsStanding};
 
@@ -17,7 +18,8 @@ use strip_planner::need;
 // The coarsest level in use whose filled region isn't its window.
 fn coarsest_unfilled(desk: &PlanDesk) -> Option<u8>
     requires { IsStanding desk.now }
-    ensures value { result ≡ first_of (filter (λ level. not (is_whole (state_of desk.now) level)) (used_from_coarsest (state_of desk.now))) }
+    ensures value { result ≡ first_of (filter
+        (λ level. not (is_whole (state_of desk.now) level)) (used_from_coarsest (state_of desk.now))) }
     ensures there { IfSome result (λ level. level < length desk.now.levels) }
 {
     let mut first = None;
@@ -99,7 +101,8 @@ impl PlanDesk {
     fn stuck(&self, level: u8) -> Answer
         requires standing { IsStanding self.now }
         requires level { level < length self.now.levels }
-        ensures value { result ≡ ripe_or_blocked (state_of self.now) level (first_of (unfinished_pieces (state_of self.now) level)) }
+        ensures value { result
+            ≡ ripe_or_blocked (state_of self.now) level (first_of (unfinished_pieces (state_of self.now) level)) }
     {
         match self.first_unfinished(level) {
             Some(piece) => self.blocked(level, piece).unwrap_or(Answer::Idle),

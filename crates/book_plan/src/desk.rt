@@ -46,7 +46,15 @@ impl Model for PlanDesk {
 
     ghost Value = { Desk };
 
-    ghost view = { λ a. record { k = a.k; x = a.x; y = a.y; altitude = a.altitude; levels = a.levels.items; begun = a.begun; passes = a.passes.items } };
+    ghost view = { λ a. record {
+      k = a.k;
+      x = a.x;
+      y = a.y;
+      altitude = a.altitude;
+      levels = a.levels.items;
+      begun = a.begun;
+      passes = a.passes.items;
+    } };
 }
 
 /// Whether two regions have the same cells.

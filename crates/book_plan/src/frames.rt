@@ -1,6 +1,7 @@
 //! Frames that a pass begins and ends.
 
-ghost use Rattle.std.specs.Prelude.{◌≡◌, ◌+◌, ◌-◌, ◌^◌, ◌<◌, ◌≤◌, None, take, map, flat_map, length, slice_index_or, unwrap_or};
+ghost use Rattle.std.specs.Prelude.{◌≡◌, ◌+◌, ◌-◌, ◌^◌, ◌<◌, ◌≤◌, None, take, map, flat_map, length};
+ghost use Rattle.std.specs.Prelude.{slice_index_or, unwrap_or};
 ghost use Rattle.std.specs.Option.{option_or};
 ghost use Rattle.clip_regions.specs.Regions.{empty_region};
 ghost use Rattle.plan_model.specs.Strips.{first_of};
@@ -69,7 +70,8 @@ impl PlanDesk {
     fn held_under(&self, actives: &Actives) -> Option<Answer>
         requires standing { IsStanding self.now }
         requires many { length actives.now ≡ length self.now.levels }
-        ensures { result ≡ first_of (flat_map (answers_under (state_of self.now) actives.now) (from_coarsest (state_of self.now))) }
+        ensures { result
+            ≡ first_of (flat_map (answers_under (state_of self.now) actives.now) (from_coarsest (state_of self.now))) }
     {
         let mut first = None;
         for level in (0..self.level_count()).rev() {

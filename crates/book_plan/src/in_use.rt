@@ -2,7 +2,8 @@
 
 ghost use Rattle.std.specs.Prelude.{◌≡◌, ℕ, ◌^◌, ◌<◌, ◌≤◌, length, slice_index_or, slice_set};
 ghost use Rattle.plan_model.specs.Limits.{IsSize, IsLevelCount, IsViewed};
-ghost use Rattle.plan_model.specs.States.{is_seen, finest_used, finest_at, is_used, filled_at, window_at, is_whole, level_at, pass_at, job_of, frame_of, has_work};
+ghost use Rattle.plan_model.specs.States.{is_seen, finest_used, finest_at, is_used, filled_at, window_at, is_whole};
+ghost use Rattle.plan_model.specs.States.{level_at, pass_at, job_of, frame_of, has_work};
 ghost use Rattle.plan_model.specs.Strips.{current_strip};
 ghost use Rattle.plan_model.specs.Claims.{strip_at};
 ghost use Rattle.plan_model.specs.Tiles.{holder, pinner};
@@ -164,7 +165,8 @@ impl PlanDesk {
     fn first_strip(&self, level: u8) -> Option<Region>
         requires standing { IsStanding self.now }
         requires level { level < length self.now.levels }
-        ensures value { result ≡ current_strip (filled_at (state_of self.now) level) (window_at (state_of self.now) level) }
+        ensures value { result
+            ≡ current_strip (filled_at (state_of self.now) level) (window_at (state_of self.now) level) }
     {
         parts_are_filled_in();
         let filled = self.filled_at(level);

@@ -3,7 +3,8 @@
 ghost use Rattle.std.specs.Prelude.{◌≡◌, ◌<◌, ◌≤◌, true, Some, length, slice_index_or, slice_set};
 ghost use Rattle.plan_model.specs.States.{pass_at, job_of};
 ghost use Rattle.plan_model.specs.Claims.{strip_at, unfinished_pieces};
-ghost use Rattle.plan_model.specs.Steps.{claim_step, kept_job, stale_job, finished_job, finish_step, published, publish_step, job_answer};
+ghost use Rattle.plan_model.specs.Steps.{claim_step, kept_job, stale_job, finished_job, finish_step, published};
+ghost use Rattle.plan_model.specs.Steps.{publish_step, job_answer};
 ghost use Rattle.plan_model.specs.Laws.{IsFilledIn};
 ghost use Rattle.plan_model.specs.declared.events.Work.TheVariants.{Free};
 ghost use Rattle.book_plan.specs.Slots.{empty_shelf, marked_shelf, open_pieces, HaveDifferentBlocks};
@@ -35,7 +36,8 @@ fn job_answer(job: JobNote) -> Answer
 fn mark_level(levels: &mut [PlanLevel], level: u8, piece: Piece)
     requires level { level < length levels.old }
     requires blocks { HaveDifferentBlocks (slice_index_or levels.old level empty_shelf).slots }
-    ensures { levels.new ≡ slice_set levels.old level (marked_shelf piece (slice_index_or levels.old level empty_shelf)) }
+    ensures { levels.new
+        ≡ slice_set levels.old level (marked_shelf piece (slice_index_or levels.old level empty_shelf)) }
 {
     levels[level as usize].mark(piece);
 }
@@ -45,7 +47,8 @@ fn grow_level(levels: &mut [PlanLevel], level: u8, filled: Region, window: Regio
     requires level { level < length levels.old }
     requires filled { IsFilledIn filled window }
     requires window { IsRoomy window }
-    ensures { levels.new ≡ slice_set levels.old level (filled_shelf true filled (slice_index_or levels.old level empty_shelf).plan window) }
+    ensures { levels.new ≡ slice_set levels.old level
+        (filled_shelf true filled (slice_index_or levels.old level empty_shelf).plan window) }
 {
     let plan = levels[level as usize].plan();
     fill_in(&mut levels[level as usize], true, filled, plan, window);
@@ -85,7 +88,9 @@ impl PlanDesk {
     fn mark(&mut self, level: u8, piece: Piece)
         requires level { level < length self.old.levels }
         requires blocks { HaveDifferentBlocks (shelf_at self.old level).slots }
-        ensures { self.new ≡ record self.old { levels = slice_set self.old.levels level (marked_shelf piece (shelf_at self.old level)) } }
+        ensures { self.new ≡ record self.old {
+          levels = slice_set self.old.levels level (marked_shelf piece (shelf_at self.old level));
+        } }
     {
         mark_level(self.levels.as_mut_slice(), level, piece);
     }
@@ -169,7 +174,9 @@ impl PlanDesk {
         requires level { level < length self.old.levels }
         requires filled { IsFilledIn filled window }
         requires window { IsRoomy window }
-        ensures { self.new ≡ record self.old { levels = slice_set self.old.levels level (filled_shelf true filled (shelf_at self.old level).plan window) } }
+        ensures { self.new ≡ record self.old {
+          levels = slice_set self.old.levels level (filled_shelf true filled (shelf_at self.old level).plan window);
+        } }
     {
         grow_level(self.levels.as_mut_slice(), level, filled, window);
     }

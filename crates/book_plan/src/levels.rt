@@ -1,12 +1,14 @@
 //! A level of a book: what is filled of it, and which pieces of its current strip are finished.
 
-ghost use Rattle.std.specs.Prelude.{◌≡◌, ℕ, ◌≤◌, ◌<◌, ◌++◌, [], true, false, map, filter, length, slice_index_or, IfOk, IfSome, vec_capacity};
+ghost use Rattle.std.specs.Prelude.{◌≡◌, ℕ, ◌≤◌, ◌<◌, ◌++◌, [], true, false, map, filter, length, slice_index_or};
+ghost use Rattle.std.specs.Prelude.{IfOk, IfSome, vec_capacity};
 ghost use Rattle.clip_regions.specs.Regions.{empty_region};
 ghost use Rattle.plan_model.specs.Blocks.{same_block, same_number};
 ghost use Rattle.plan_model.specs.Strips.{pieces, first_of};
 ghost use Rattle.plan_model.specs.Claims.{strip_pieces};
 ghost use Rattle.strip_planner.specs.Planned.{IsPlanned};
-ghost use Rattle.book_plan.specs.Slots.{Shelf, empty_shelf, all_pieces, open_pieces, fresh_slot, marked_slot, is_open, HaveDifferentBlocks, IsFirstOpen, IsFirstOfBlock};
+ghost use Rattle.book_plan.specs.Slots.{Shelf, empty_shelf, all_pieces, open_pieces, fresh_slot, marked_slot};
+ghost use Rattle.book_plan.specs.Slots.{is_open, HaveDifferentBlocks, IsFirstOpen, IsFirstOfBlock};
 
 use crate::slots::Slot;
 use clip_regions::Region;
@@ -37,7 +39,8 @@ impl Model for PlanLevel {
 
     ghost view = { λ s. record { filled = s.filled; plan = s.plan; slots = s.slots.items } };
 
-    ghost invariant = { λ s. (1089 ≤ vec_capacity s.slots) × IsFirstOpen s.slots.items s.first × (length s.slots.items ≤ 1089) };
+    ghost invariant = { λ s.
+        (1089 ≤ vec_capacity s.slots) × IsFirstOpen s.slots.items s.first × (length s.slots.items ≤ 1089) };
 }
 
 // Whether two numbers are one.

@@ -11,7 +11,8 @@ ghost use Rattle.plan_model.specs.Steps.{move_step};
 ghost use Rattle.plan_model.specs.Laws.{IsFilledIn};
 ghost use Rattle.book_plan.specs.Slots.{empty_shelf};
 ghost use Rattle.book_plan.specs.Desks.{state_of, shelf_at, HaveSlots, IsStanding};
-ghost use Rattle.book_plan.specs.Moves.{used_for, stays_for, strip_where, filled_shelf, moved_shelf, moved_from, viewer_of, moved_desk, IsRoomy};
+ghost use Rattle.book_plan.specs.Moves.{used_for, stays_for, strip_where, filled_shelf, moved_shelf, moved_from};
+ghost use Rattle.book_plan.specs.Moves.{viewer_of, moved_desk, IsRoomy};
 
 use crate::desk::{PlanDesk, same_region};
 use crate::in_use::{finest_used, roomy_window};
@@ -114,8 +115,10 @@ fn move_levels(levels: &mut [PlanLevel], k: u8, from: Viewer, to: Viewer)
     requires many { IsLevelCount (length levels.old) }
     requires from { IsViewer from.x from.y from.a }
     requires to { IsViewer to.x to.y to.a }
-    requires placed { (level : ℕ) → level < length levels.old → IsPlaced (slice_index_or levels.old level empty_shelf).filled }
-    requires plans { (level : ℕ) → level < length levels.old → (slice_index_or levels.old level empty_shelf).plan < 2 ^ 64 - 1 }
+    requires placed { (level : ℕ) → level < length levels.old →
+        IsPlaced (slice_index_or levels.old level empty_shelf).filled }
+    requires plans { (level : ℕ) → level < length levels.old →
+        (slice_index_or levels.old level empty_shelf).plan < 2 ^ 64 - 1 }
     ensures { levels.new ≡ map (moved_from k from to levels.old) (range_with_len 0 (length levels.old)) }
 {
     let count = levels.len() as u8;
@@ -155,9 +158,13 @@ impl PlanDesk {
         requires many { IsLevelCount (length self.old.levels) }
         requires from { IsViewer from.x from.y from.a }
         requires to { IsViewer to.x to.y to.a }
-        requires placed { (level : ℕ) → level < length self.old.levels → IsPlaced (shelf_at self.old level).filled }
-        requires plans { (level : ℕ) → level < length self.old.levels → (shelf_at self.old level).plan < 2 ^ 64 - 1 }
-        ensures { self.new ≡ record self.old { levels = map (moved_from self.old.k from to self.old.levels) (range_with_len 0 (length self.old.levels)) } }
+        requires placed { (level : ℕ) → level < length self.old.levels →
+            IsPlaced (shelf_at self.old level).filled }
+        requires plans { (level : ℕ) → level < length self.old.levels →
+            (shelf_at self.old level).plan < 2 ^ 64 - 1 }
+        ensures { self.new ≡ record self.old {
+          levels = map (moved_from self.old.k from to self.old.levels) (range_with_len 0 (length self.old.levels));
+        } }
     {
         move_levels(self.levels.as_mut_slice(), self.k, from, to);
     }

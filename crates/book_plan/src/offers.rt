@@ -184,7 +184,8 @@ impl PlanDesk {
     // The first job from the coarsest level in use on.
     fn first_from_coarsest(&self) -> Option<JobNote>
         requires { IsStanding self.now }
-        ensures { result ≡ first_of (flat_map (jobs_on (state_of self.now)) (used_from_coarsest (state_of self.now))) }
+        ensures { result
+            ≡ first_of (flat_map (jobs_on (state_of self.now)) (used_from_coarsest (state_of self.now))) }
     {
         let mut first = None;
         for level in (self.finest()..self.level_count()).rev() {

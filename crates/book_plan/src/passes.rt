@@ -1,6 +1,7 @@
 //! What the passes of a book have: which torus tiles they hold and pin.
 
-ghost use Rattle.std.specs.Prelude.{◌≡◌, ◌<◌, ◌≤◌, ◌&&◌, ◌==◌, None, filter, fold, flat_map, length, slice_index_or, slice_set, if◌then◌else◌};
+ghost use Rattle.std.specs.Prelude.{◌≡◌, ◌<◌, ◌≤◌, ◌&&◌, ◌==◌, None, filter, fold, flat_map, length};
+ghost use Rattle.std.specs.Prelude.{slice_index_or, slice_set, if◌then◌else◌};
 ghost use Rattle.std.specs.List.{range_with_len};
 ghost use Rattle.clip_regions.specs.Regions.{empty_region};
 ghost use Rattle.plan_model.specs.Limits.{IsSize};
@@ -9,7 +10,8 @@ ghost use Rattle.plan_model.specs.Strips.{first_of};
 ghost use Rattle.plan_model.specs.States.{job_of, frame_of, has_work};
 ghost use Rattle.plan_model.specs.Tiles.{job_holds, pins_of, lesser, meets_tile};
 ghost use Rattle.plan_model.specs.declared.events.Work.TheVariants.{Free};
-ghost use Rattle.book_plan.specs.Found.{or_found, listed, lesser_of, number_of, comes_before, earlier, job_under, first_under};
+ghost use Rattle.book_plan.specs.Found.{or_found, listed, lesser_of, number_of, comes_before, earlier, job_under};
+ghost use Rattle.book_plan.specs.Found.{first_under};
 
 use crate::desk::{PlanFrame, has_work, job_of};
 use clip_regions::Region;
@@ -81,7 +83,8 @@ fn job_holds(k: u8, level: u8, t: TileId, job: Option<JobNote>) -> bool
 pub(crate) fn holder_of(k: u8, passes: &[Work<PlanFrame>], level: u8, t: TileId) -> Option<u8>
     requires k { IsSize k }
     requires few { length passes.now ≤ 256 }
-    ensures value { result ≡ first_of (filter (λ p. job_holds k level t (job_of (slice_index_or passes.now p Free))) (range_with_len 0 (length passes.now))) }
+    ensures value { result ≡ first_of (filter
+        (λ p. job_holds k level t (job_of (slice_index_or passes.now p Free))) (range_with_len 0 (length passes.now))) }
 {
     let mut first = None;
     for p in 0..passes.len() {
