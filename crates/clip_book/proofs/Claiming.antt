@@ -25,14 +25,16 @@ use Rattle.plan_holds.proofs.Passes.{some_same}
 use Rattle.book_plan.specs.Books.{PlanView, Does as Plans}
 use Rattle.torus_grid.specs.Grids.{is_home}
 use Rattle.book_cells.specs.Cells.{HasCells, GoesOut}
-use Rattle.book_cells.specs.Laws.{IsClaimed, IsGiven, CellsGoOut, NeededCellsHaveHeights, IsAtHome}
+use Rattle.book_cells.specs.Laws.{IsClaimed, IsGiven, ClaimsGiveJobs, CellsGoOut, NeededCellsHaveHeights, IsAtHome}
 use Rattle.book_cells.proofs.Claims.{block_there}
 use Rattle.terrain_store.specs.Shapes.{Land}
 use Rattle.clip_book.specs.Answers.{told_job, IsClaimAnswer, IsRefusedClaim}
 use Rattle.clip_book.specs.Tiles.{Tiles, SameSizes, grid_on, cells_of}
 use Rattle.clip_book.specs.Jobs.{needed}
 use Rattle.clip_book.specs.Reading.{IsInBlock, IsReadable}
-use Rattle.clip_book.specs.Books.{IsBook}
+use Rattle.clip_book.specs.Books.{BookView, IsBook, HandsOutWithJob}
+use Rattle.clip_book.specs.declared.answers.Claimed.{Claimed}
+use Rattle.clip_book.specs.declared.answers.Claimed.TheVariants as C
 use Rattle.clip_book.proofs.AnswersOf.{claim_answers, refused_claims}
 use Rattle.clip_book.proofs.Standing.{next_stands, same_sizes, after_event, kept_after, cell_home, cell_height}
 
@@ -87,6 +89,18 @@ refused_stands keep goes same p answer old new land tiles does none book =
 -- ---- a job that was claimed
 pub claimed : (p : ℕ) (answer : Answer) (old new : PlanView) (note : JobNote) → Plans p Claim answer old new → told_job answer ≡ Some note → IsClaimed old.state p note
 claimed p answer old new note does told = does.answered ∙ told_is answer note told
+
+pub given_of : ClaimsGiveJobs → (p : ℕ) (answer : Answer) (old new : PlanView) (note : JobNote) → p < 16 → length old.state.passes ≡ 16 → Plans p Claim answer old new → told_job answer ≡ Some note → IsGiven old.state p note
+given_of law p answer old new note small many does told =
+    law old.state p note (subst (λ (n : ℕ). p < n) (sym many) small) (claimed p answer old new note does told)
+
+pub refused_hands : (said : Claimed) (old new : BookView) → new.handed ≡ old.handed → HandsOutWithJob said old new
+refused_hands (C.Job job) old new e = tt
+refused_hands C.Idle old new e = e
+refused_hands (C.Ripe level) old new e = e
+refused_hands (C.Busy level tile frame) old new e = e
+refused_hands (C.Held level tile pass) old new e = e
+refused_hands C.HasWork old new e = e
 
 of_strip : (P : Piece → Type 0) (strip : Option Region) (piece : Piece) → ((r : Region) → All P (pieces r)) → Contains (strip_pieces strip) piece → P piece
 of_strip P None piece all h = absurd (among {X = Piece} [] piece h)

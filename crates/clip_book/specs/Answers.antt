@@ -60,120 +60,45 @@ IsOfNote told _ = Unit {0}
 
 -- the answers of each kind of event
 abbrev pub IsClaimAnswer : Answer → Type 0
-IsClaimAnswer Moved = ⊥
 IsClaimAnswer (Job level bx by cells plan) = Unit {0}
 IsClaimAnswer Idle = Unit {0}
 IsClaimAnswer (Ripe level) = Unit {0}
 IsClaimAnswer (Busy level tile frame) = Unit {0}
 IsClaimAnswer (Held level tile pass) = Unit {0}
 IsClaimAnswer HasWork = Unit {0}
-IsClaimAnswer Kept = ⊥
-IsClaimAnswer (Stale plan now) = ⊥
-IsClaimAnswer (Grown region) = ⊥
-IsClaimAnswer (Waiting pieces) = ⊥
-IsClaimAnswer Whole = ⊥
-IsClaimAnswer (Frame number) = ⊥
-IsClaimAnswer (Closed number) = ⊥
-IsClaimAnswer NoFrame = ⊥
+IsClaimAnswer _ = ⊥
 
 abbrev pub IsRefusedClaim : Answer → Type 0
-IsRefusedClaim Moved = ⊥
-IsRefusedClaim (Job level bx by cells plan) = ⊥
 IsRefusedClaim Idle = Unit {0}
 IsRefusedClaim (Ripe level) = Unit {0}
 IsRefusedClaim (Busy level tile frame) = Unit {0}
 IsRefusedClaim (Held level tile pass) = Unit {0}
 IsRefusedClaim HasWork = Unit {0}
-IsRefusedClaim Kept = ⊥
-IsRefusedClaim (Stale plan now) = ⊥
-IsRefusedClaim (Grown region) = ⊥
-IsRefusedClaim (Waiting pieces) = ⊥
-IsRefusedClaim Whole = ⊥
-IsRefusedClaim (Frame number) = ⊥
-IsRefusedClaim (Closed number) = ⊥
-IsRefusedClaim NoFrame = ⊥
+IsRefusedClaim _ = ⊥
 
 abbrev pub IsGivenAnswer : Answer → Type 0
-IsGivenAnswer Moved = ⊥
-IsGivenAnswer (Job level bx by cells plan) = ⊥
-IsGivenAnswer Idle = ⊥
-IsGivenAnswer (Ripe level) = ⊥
-IsGivenAnswer (Busy level tile frame) = ⊥
-IsGivenAnswer (Held level tile pass) = ⊥
-IsGivenAnswer HasWork = ⊥
 IsGivenAnswer Kept = Unit {0}
 IsGivenAnswer (Stale plan now) = Unit {0}
-IsGivenAnswer (Grown region) = ⊥
-IsGivenAnswer (Waiting pieces) = ⊥
-IsGivenAnswer Whole = ⊥
-IsGivenAnswer (Frame number) = ⊥
-IsGivenAnswer (Closed number) = ⊥
-IsGivenAnswer NoFrame = ⊥
+IsGivenAnswer _ = ⊥
 
 abbrev pub IsPublishedAnswer : Answer → Type 0
-IsPublishedAnswer Moved = ⊥
-IsPublishedAnswer (Job level bx by cells plan) = ⊥
-IsPublishedAnswer Idle = ⊥
-IsPublishedAnswer (Ripe level) = ⊥
-IsPublishedAnswer (Busy level tile frame) = ⊥
-IsPublishedAnswer (Held level tile pass) = ⊥
-IsPublishedAnswer HasWork = ⊥
-IsPublishedAnswer Kept = ⊥
-IsPublishedAnswer (Stale plan now) = ⊥
 IsPublishedAnswer (Grown region) = Unit {0}
 IsPublishedAnswer (Waiting pieces) = Unit {0}
 IsPublishedAnswer Whole = Unit {0}
-IsPublishedAnswer (Frame number) = ⊥
-IsPublishedAnswer (Closed number) = ⊥
-IsPublishedAnswer NoFrame = ⊥
+IsPublishedAnswer _ = ⊥
 
 abbrev pub IsBeginAnswer : Answer → Type 0
-IsBeginAnswer Moved = ⊥
-IsBeginAnswer (Job level bx by cells plan) = ⊥
-IsBeginAnswer Idle = ⊥
-IsBeginAnswer (Ripe level) = ⊥
-IsBeginAnswer (Busy level tile frame) = ⊥
 IsBeginAnswer (Held level tile pass) = Unit {0}
 IsBeginAnswer HasWork = Unit {0}
-IsBeginAnswer Kept = ⊥
-IsBeginAnswer (Stale plan now) = ⊥
-IsBeginAnswer (Grown region) = ⊥
-IsBeginAnswer (Waiting pieces) = ⊥
-IsBeginAnswer Whole = ⊥
 IsBeginAnswer (Frame number) = Unit {0}
-IsBeginAnswer (Closed number) = ⊥
-IsBeginAnswer NoFrame = ⊥
+IsBeginAnswer _ = ⊥
 
 abbrev pub IsRefusedBegin : Answer → Type 0
-IsRefusedBegin Moved = ⊥
-IsRefusedBegin (Job level bx by cells plan) = ⊥
-IsRefusedBegin Idle = ⊥
-IsRefusedBegin (Ripe level) = ⊥
-IsRefusedBegin (Busy level tile frame) = ⊥
 IsRefusedBegin (Held level tile pass) = Unit {0}
 IsRefusedBegin HasWork = Unit {0}
-IsRefusedBegin Kept = ⊥
-IsRefusedBegin (Stale plan now) = ⊥
-IsRefusedBegin (Grown region) = ⊥
-IsRefusedBegin (Waiting pieces) = ⊥
-IsRefusedBegin Whole = ⊥
-IsRefusedBegin (Frame number) = ⊥
-IsRefusedBegin (Closed number) = ⊥
-IsRefusedBegin NoFrame = ⊥
+IsRefusedBegin _ = ⊥
 
 abbrev pub IsEndedAnswer : Answer → Type 0
-IsEndedAnswer Moved = ⊥
-IsEndedAnswer (Job level bx by cells plan) = ⊥
-IsEndedAnswer Idle = ⊥
-IsEndedAnswer (Ripe level) = ⊥
-IsEndedAnswer (Busy level tile frame) = ⊥
-IsEndedAnswer (Held level tile pass) = ⊥
-IsEndedAnswer HasWork = ⊥
-IsEndedAnswer Kept = ⊥
-IsEndedAnswer (Stale plan now) = ⊥
-IsEndedAnswer (Grown region) = ⊥
-IsEndedAnswer (Waiting pieces) = ⊥
-IsEndedAnswer Whole = ⊥
-IsEndedAnswer (Frame number) = ⊥
 IsEndedAnswer (Closed number) = Unit {0}
 IsEndedAnswer NoFrame = Unit {0}
+IsEndedAnswer _ = ⊥

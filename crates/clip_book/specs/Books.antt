@@ -41,6 +41,11 @@ abbrev pub GivesJobOf : BookView → ℕ → Claimed → Type 0
 GivesJobOf book p (C.Job job) = IsJobOf book p job
 GivesJobOf book p _ = Unit {0}
 
+-- a claim that gives no job leaves what the pass was handed too
+abbrev pub HandsOutWithJob : Claimed → BookView → BookView → Type 0
+HandsOutWithJob (C.Job job) old new = Unit {0}
+HandsOutWithJob _ old new = new.handed ≡ old.handed
+
 -- the active regions that a beginning gives are those of the pass's frame
 abbrev pub GivesActivesOf : BookView → ℕ → Begun → Type 0
 GivesActivesOf book p (B.Frame number actives) =

@@ -9,8 +9,9 @@ ghost use Rattle.plan_model.specs.declared.events.Event.TheVariants.{Move, Claim
 ghost use Rattle.plan_model.specs.declared.events.Answer.TheVariants.{Moved};
 ghost use Rattle.book_plan.specs.Books.{unfinished_on};
 ghost use Rattle.book_plan.specs.Notes.{open_frame};
-ghost use Rattle.clip_book.specs.Answers.{said_of_claim, said_of_given, said_of_published, said_of_begun, said_of_ended};
-ghost use Rattle.clip_book.specs.Books.{Does, IsFilledOf, GivesJobOf, GivesActivesOf, Shows, started};
+ghost use Rattle.clip_book.specs.Answers.{said_of_claim, said_of_given, said_of_published};
+ghost use Rattle.clip_book.specs.Answers.{said_of_begun, said_of_ended};
+ghost use Rattle.clip_book.specs.Books.{Does, IsFilledOf, GivesJobOf, HandsOutWithJob, GivesActivesOf, Shows, started};
 
 use crate::answers::{
     Begun, Claimed, Ended, Given, Published, begun_frame, ended_answer, given_answer,
@@ -118,6 +119,7 @@ impl Book {
         requires { pass < 16 }
         ensures does { Does pass Claim (said_of_claim result) self.old self.new }
         ensures job { GivesJobOf self.new pass result }
+        ensures handed { HandsOutWithJob result self.old self.new }
     {
         kept_by_each_step();
         steps_go_on();
