@@ -1,8 +1,3 @@
-//! Worked scripts of events, and random ones beside the plain program.
+//! A settled book. Worked scripts of events, and random ones beside the plain program, run in `grid_fills`.
 
-mod altitudes;
 mod flights;
-mod levels;
-mod one_level;
-mod random;
-mod scripts;

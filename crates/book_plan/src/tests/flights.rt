@@ -1,11 +1,18 @@
 //! A book that is settled.
 
 use crate::BookPlan;
-use crate::tests::scripts::take;
 use plan_model::{Answer, Event};
+use plan_plain::is_taken;
 use std::alloc::Global;
 use std::process::Abort;
 use std::test::Fail;
+
+// An event of a pass that a plan can take is taken, and its answer told.
+fn take(rt: &impl Abort, book: &mut BookPlan, pass: u8, event: Event) -> Answer {
+    assert!(rt; pass < 16 && is_taken(book.levels(), event));
+    assert!(rt; book.moves() < 1099511627776 && book.begun() < 1099511627776);
+    book.step(pass, event)
+}
 
 // Claims and gives back, and publishes what is ripe, at most so many times. It gives the count of pieces.
 fn settle(rt: &impl Abort, book: &mut BookPlan, most: u32) -> u32 {

@@ -1,0 +1,84 @@
+-- The heights of a job's cells, written one after the other.
+use Rattle.std.proofs.Common.{◌≡◌, ℕ, ◌+◌, ◌*◌, ◌/◌, ◌%◌, ◌<◌, ◌≤◌, ℤ, pos, ◌+ℤ◌, ◌-ℤ◌, ◌≤ℤ◌, List, [], ◌∷◌, zero, suc, map, take, length, get_or, set, get_or-set_same, get_or-set_other, length-set, refl, ap, sym, ◌∙◌, subst, inl, inr, arith}
+use Rattle.std.specs.Int.{int_gap}
+use Rattle.std.proofs.lemmas.Int.{ints}
+use Rattle.std.proofs.lemmas.Bool.{cases_eq}
+use Rattle.std.proofs.Math.Nat.{mod-lt, mul-div-le, lt_of_mul-lt-mul_left}
+use Rattle.clip_regions.specs.declared.region.Region.{Region}
+use mathlib.Core.Path.{ap₂}
+use Rattle.clip_regions.specs.Regions.{columns, rows, area, cells}
+use Rattle.terrain_model.specs.Terrain.{Terrain, level_height}
+use Rattle.clip_regions.proofs.Sizes.{gap_is}
+use Rattle.plan_model.specs.declared.events.JobNote.{JobNote}
+use Rattle.plan_laws.specs.Hulls.{InsideIsHeld}
+use Rattle.four_point.specs.declared.patch.Patch.{Patch}
+use Rattle.terrain_store.specs.Shapes.{Land}
+use Rattle.torus_grid.proofs.Written.{IsShort, short_from}
+use Rattle.clip_book.specs.Jobs.{IsJob, heights_of}
+use Rattle.clip_book.specs.Laws.{StandByPlaces, ReadByPlaces}
+
+-- ---- the sides of a job's cells
+pub short_of : InsideIsHeld → (land : Land) (note : JobNote) (patch : Patch) (r : Region) → IsJob land note patch → r ≡ note.piece.cells → IsShort r
+short_of law land note patch r job e =
+    subst IsShort (sym e) (short_from law note.piece.cells (record { bx = note.piece.bx; by = note.piece.by; held = job.block }) job.some)
+
+pub side_is : (a b : ℤ) (n : ℕ) → n ≡ int_gap a (b +ℤ pos 1) → a ≤ℤ b → pos n ≡ b +ℤ pos 1 -ℤ a
+side_is a b n e order = ap pos e ∙ gap_is a (b +ℤ pos 1) (omega (arith, ints))
+
+-- ---- a place among the cells
+pub across_less : (k w : ℕ) → 0 < w → k % w < w
+across_less k w some = mod-lt k some
+
+pub down_less : (k w h : ℕ) → k < w * h → k / w < h
+down_less k w h l =
+    let part : w * (k / w) ≤ k = mul-div-le k w in
+    let less : w * (k / w) < w * h = omega arith in
+    lt_of_mul-lt-mul_left w less
+
+-- ---- the heights so far
+pub record FilledTo (height : ℤ → ℤ → ℤ) (r : Region) (across k : ℕ) (out : List ℤ) : Type 0 where
+  pub many : length out ≡ 64
+  pub heights : (m : ℕ) → m < k → get_or out m (pos 0) ≡ height (r.x0 +ℤ pos (m % across)) (r.y0 +ℤ pos (m / across))
+
+pub filled_none : (height : ℤ → ℤ → ℤ) (r : Region) (across : ℕ) (out : List ℤ) → length out ≡ 64 → FilledTo height r across 0 out
+filled_none height r across out e = record { many = e; heights = λ m l. absurd (omega arith) }
+
+pub filled_more : (height : ℤ → ℤ → ℤ) (r : Region) (across k : ℕ) (out : List ℤ) (v : ℤ) → FilledTo height r across k out → k < 64 → v ≡ height (r.x0 +ℤ pos (k % across)) (r.y0 +ℤ pos (k / across)) → FilledTo height r across (k + 1) (set out k v)
+filled_more height r across k out v so_far below e = record {
+  many = length-set out k v ∙ so_far.many;
+  heights = λ m l.
+      let inside : k < length out = subst (λ (s : ℕ). k < s) (sym so_far.many) below in
+      elim (cases_eq m k) [
+        | inl same ↦ ap (λ (s : ℕ). get_or (set out k v) s (pos 0)) same ∙ get_or-set_same out k v (pos 0) inside ∙ e ∙ ap (λ (s : ℕ). height (r.x0 +ℤ pos (s % across)) (r.y0 +ℤ pos (s / across))) (sym same)
+        | inr other ↦ get_or-set_other out k m v (pos 0) other ∙ so_far.heights m (omega arith)
+      ];
+}
+
+get_take : (xs : List ℤ) (n m : ℕ) → m < n → get_or (take n xs) m (pos 0) ≡ get_or xs m (pos 0)
+get_take [] zero m l = refl
+get_take [] (suc n) m l = refl
+get_take (x ∷ xs) zero m l = absurd (omega arith)
+get_take (x ∷ xs) (suc n) zero l = refl
+get_take (x ∷ xs) (suc n) (suc m) l = get_take xs n m (omega arith)
+
+length_take : (xs : List ℤ) (n : ℕ) → n ≤ length xs → length (take n xs) ≡ n
+length_take xs zero l = refl
+length_take [] (suc n) l = absurd (omega arith)
+length_take (x ∷ xs) (suc n) l = ap suc (length_take xs n (omega arith))
+
+pub filled_whole : (height : ℤ → ℤ → ℤ) (r : Region) (across n k : ℕ) (out : List ℤ) → FilledTo height r across k out → k ≡ n → n ≤ 64 → across ≡ columns r → StandByPlaces height r (take n out)
+filled_whole height r across n k out so_far last few e m l =
+    let there : n ≤ length out = subst (λ (s : ℕ). n ≤ s) (sym so_far.many) few in
+    let less : m < n = subst (λ (s : ℕ). m < s) (length_take out n there) l in
+    let below : m < k = subst (λ (s : ℕ). m < s) (sym last) less in
+    get_take out n m less ∙ so_far.heights m below ∙ ap (λ (s : ℕ). height (r.x0 +ℤ pos (m % s)) (r.y0 +ℤ pos (m / s))) e
+
+pub heights_are : ReadByPlaces → (terrain grid : Terrain) (note : JobNote) (level : ℕ) (r : Region) (across down : ℕ) (out : List ℤ) → terrain ≡ grid → level ≡ note.level → r ≡ note.piece.cells → across ≡ columns r → down ≡ rows r → across * down ≤ 64 → length out ≡ 64 → StandByPlaces (level_height grid level) r (take (across * down) out) → take (across * down) out ≡ heights_of terrain note
+unfolding area
+heights_are law terrain grid note level r across down out t l e a d few many stand =
+    let there : across * down ≤ length out = subst (λ (s : ℕ). across * down ≤ s) (sym many) few in
+    let long : length (take (across * down) out) ≡ area r = length_take out (across * down) there ∙ ap₂ (λ (m n : ℕ). m * n) a d in
+    law (level_height grid level) r (take (across * down) out) long stand
+    ∙ ap (λ (g : Terrain). map (λ (c : ℤ × ℤ). level_height g level c.0 c.1) (cells r)) (sym t)
+    ∙ ap (λ (n : ℕ). map (λ (c : ℤ × ℤ). level_height terrain n c.0 c.1) (cells r)) l
+    ∙ ap (λ (q : Region). map (λ (c : ℤ × ℤ). level_height terrain note.level c.0 c.1) (cells q)) e

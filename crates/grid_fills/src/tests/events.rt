@@ -1,0 +1,245 @@
+//! The events of a book whose jobs are kept by pass, with the plain answers.
+
+ghost use Rattle.std.specs.Prelude.{◌≡◌, ◌^◌, ◌<◌, ◌≤◌, length, None, slice_index_or};
+ghost use Rattle.plan_model.specs.Limits.{IsViewer};
+ghost use Rattle.terrain_store.specs.Shapes.{IsLand};
+ghost use Rattle.clip_book.specs.Books.{IsJobOf};
+ghost use Rattle.grid_fills.specs.Holding.{HoldsJobs};
+
+use crate::fill_job;
+use clip_book::{Begun, Book, Claimed, Ended, Given, Job, Published};
+use height_pyramid::Grid;
+use plan_histories::{moves_leave_parts, others_keep_parts, publications_leave_parts};
+use plan_model::{Answer, Event, refusals_change_nothing};
+use plan_plain::is_taken;
+use std::process::Abort;
+
+// The viewer moves.
+fn move_viewer(book: &mut Book, jobs: &[Option<Job>], x: i32, y: i32, a: u32) -> Answer
+    requires viewer { IsViewer x y a }
+    requires moves { book.old.plan.moves < 2 ^ 40 }
+    requires jobs { HoldsJobs book.old jobs.now }
+    ensures land { book.new.land ≡ book.old.land }
+    ensures jobs { HoldsJobs book.new jobs.now }
+{
+    moves_leave_parts();
+    book.move_to(x, y, a);
+    Answer::Moved
+}
+
+// A level is published.
+fn publish(book: &mut Book, jobs: &[Option<Job>], level: u8) -> Answer
+    requires level { level < length book.old.plan.state.levels }
+    requires jobs { HoldsJobs book.old jobs.now }
+    ensures land { book.new.land ≡ book.old.land }
+    ensures jobs { HoldsJobs book.new jobs.now }
+{
+    publications_leave_parts();
+    match book.publish(level) {
+        Published::Grown(region) => Answer::Grown { region },
+        Published::Waiting { pieces } => Answer::Waiting { pieces },
+        Published::Whole => Answer::Whole,
+    }
+}
+
+// What the beginning of a frame is answered.
+fn said_of_begun(begun: &Begun) -> Answer {
+    match *begun {
+        Begun::Frame { number, actives: _ } => Answer::Frame { number },
+        Begun::Held { level, tile, pass } => Answer::Held { level, tile, pass },
+        Begun::HasWork => Answer::HasWork,
+    }
+}
+
+// A pass without a job begins a frame.
+fn begin(book: &mut Book, jobs: &[Option<Job>], pass: u8) -> Answer
+    requires pass { pass < 16 }
+    requires begun { book.old.plan.state.begun < 2 ^ 40 }
+    requires free { slice_index_or jobs.now pass None ≡ None }
+    requires jobs { HoldsJobs book.old jobs.now }
+    ensures land { book.new.land ≡ book.old.land }
+    ensures jobs { HoldsJobs book.new jobs.now }
+{
+    others_keep_parts();
+    let begun = book.begin(pass);
+    said_of_begun(&begun)
+}
+
+// A pass with a job is refused a frame.
+fn begin_in_vain(rt: &impl Abort, book: &mut Book, jobs: &[Option<Job>], pass: u8) -> Answer
+    requires pass { pass < 16 }
+    requires begun { book.old.plan.state.begun < 2 ^ 40 }
+    requires jobs { HoldsJobs book.old jobs.now }
+    ensures land { book.new.land ≡ book.old.land }
+    ensures jobs { HoldsJobs book.new jobs.now }
+{
+    refusals_change_nothing();
+    match book.begin(pass) {
+        Begun::HasWork => Answer::HasWork,
+        _ => panic!(rt; "a pass with a job began a frame"),
+    }
+}
+
+// A pass without a job ends its frame.
+fn end(book: &mut Book, jobs: &[Option<Job>], pass: u8) -> Answer
+    requires pass { pass < 16 }
+    requires free { slice_index_or jobs.now pass None ≡ None }
+    requires jobs { HoldsJobs book.old jobs.now }
+    ensures land { book.new.land ≡ book.old.land }
+    ensures jobs { HoldsJobs book.new jobs.now }
+{
+    others_keep_parts();
+    match book.end(pass) {
+        Ended::Closed { number } => Answer::Closed { number },
+        Ended::NoFrame => Answer::NoFrame,
+    }
+}
+
+// A pass with a job has no frame to end.
+fn end_in_vain(rt: &impl Abort, book: &mut Book, jobs: &[Option<Job>], pass: u8) -> Answer
+    requires pass { pass < 16 }
+    requires jobs { HoldsJobs book.old jobs.now }
+    ensures land { book.new.land ≡ book.old.land }
+    ensures jobs { HoldsJobs book.new jobs.now }
+{
+    refusals_change_nothing();
+    match book.end(pass) {
+        Ended::NoFrame => Answer::NoFrame,
+        _ => panic!(rt; "a pass with a job ended a frame"),
+    }
+}
+
+// The answer that tells of a job.
+fn said_of_job(job: &Job) -> Answer {
+    Answer::Job {
+        level: job.level(),
+        bx: job.bx(),
+        by: job.by(),
+        cells: job.cells(),
+        plan: job.plan(),
+    }
+}
+
+// The answer of a claim that gave no job.
+fn said_of_refusal(claimed: Claimed) -> Answer {
+    match claimed {
+        Claimed::Job(job) => said_of_job(&job),
+        Claimed::Idle => Answer::Idle,
+        Claimed::Ripe { level } => Answer::Ripe { level },
+        Claimed::Busy { level, tile, frame } => Answer::Busy { level, tile, frame },
+        Claimed::Held { level, tile, pass } => Answer::Held { level, tile, pass },
+        Claimed::HasWork => Answer::HasWork,
+    }
+}
+
+// A pass without a job claims, and keeps the job that it is given.
+fn claim(book: &mut Book, jobs: &mut [Option<Job>], pass: u8) -> Answer
+    requires pass { pass < 16 }
+    requires many { length jobs.old ≡ 16 }
+    requires free { slice_index_or jobs.old pass None ≡ None }
+    requires jobs { HoldsJobs book.old jobs.old }
+    ensures land { book.new.land ≡ book.old.land }
+    ensures many { length jobs.new ≡ 16 }
+    ensures jobs { HoldsJobs book.new jobs.new }
+{
+    others_keep_parts();
+    match book.claim(pass) {
+        Claimed::Job(job) => {
+            let answer = said_of_job(&job);
+            jobs[pass as usize] = Some(job);
+            answer
+        }
+        refused => said_of_refusal(refused),
+    }
+}
+
+// A pass with a job is refused another.
+fn claim_in_vain(rt: &impl Abort, book: &mut Book, jobs: &[Option<Job>], pass: u8) -> Answer
+    requires pass { pass < 16 }
+    requires jobs { HoldsJobs book.old jobs.now }
+    ensures land { book.new.land ≡ book.old.land }
+    ensures jobs { HoldsJobs book.new jobs.now }
+{
+    refusals_change_nothing();
+    match book.claim(pass) {
+        Claimed::HasWork => Answer::HasWork,
+        _ => panic!(rt; "a pass with a job was given another"),
+    }
+}
+
+// A pass gives its job back, filled from the grid. A pass without one has none to give back.
+fn finish(
+    rt: &impl Abort,
+    grid: &Grid,
+    book: &mut Book,
+    jobs: &mut [Option<Job>],
+    pass: u8,
+) -> Answer
+    requires terrain { book.old.land.terrain ≡ grid.now }
+    requires land { IsLand book.old.land }
+    requires pass { pass < 16 }
+    requires many { length jobs.old ≡ 16 }
+    requires jobs { HoldsJobs book.old jobs.old }
+    ensures land { book.new.land ≡ book.old.land }
+    ensures many { length jobs.new ≡ 16 }
+    ensures jobs { HoldsJobs book.new jobs.new }
+{
+    let Some(job) = jobs[pass as usize].take() else {
+        assert!(rt; !book.has_job(pass));
+        return Answer::Idle;
+    };
+    give_back(grid, book, jobs, pass, job)
+}
+
+// A pass gives this job back.
+fn give_back(grid: &Grid, book: &mut Book, jobs: &[Option<Job>], pass: u8, job: Job) -> Answer
+    requires terrain { book.old.land.terrain ≡ grid.now }
+    requires land { IsLand book.old.land }
+    requires pass { pass < 16 }
+    requires job { IsJobOf book.old pass job }
+    requires free { slice_index_or jobs.now pass None ≡ None }
+    requires jobs { HoldsJobs book.old jobs.now }
+    ensures land { book.new.land ≡ book.old.land }
+    ensures jobs { HoldsJobs book.new jobs.now }
+{
+    others_keep_parts();
+    let _patch = job.patch();
+    let filled = fill_job(grid, job);
+    match book.give_back(pass, filled) {
+        Given::Kept => Answer::Kept,
+        Given::Stale { plan, now } => Answer::Stale { plan, now },
+    }
+}
+
+/// Takes an event of a pass that a book can take, and tells the answer.
+pub fn take(
+    rt: &impl Abort,
+    grid: &Grid,
+    book: &mut Book,
+    jobs: &mut [Option<Job>],
+    pass: u8,
+    event: Event,
+) -> Answer
+    requires terrain { book.old.land.terrain ≡ grid.now }
+    requires land { IsLand book.old.land }
+    requires many { length jobs.old ≡ 16 }
+    requires jobs { HoldsJobs book.old jobs.old }
+    ensures land { book.new.land ≡ book.old.land }
+    ensures many { length jobs.new ≡ 16 }
+    ensures jobs { HoldsJobs book.new jobs.new }
+{
+    assert!(rt; pass < 16 && is_taken(book.levels(), event));
+    assert!(rt; book.moves() < 1099511627776 && book.begun() < 1099511627776);
+    let busy = jobs[pass as usize].is_some();
+    match event {
+        Event::Move { x, y, a } => move_viewer(book, jobs, x, y, a),
+        Event::Publish { level } => publish(book, jobs, level),
+        Event::Finish => finish(rt, grid, book, jobs, pass),
+        Event::Claim if busy => claim_in_vain(rt, book, jobs, pass),
+        Event::Begin if busy => begin_in_vain(rt, book, jobs, pass),
+        Event::End if busy => end_in_vain(rt, book, jobs, pass),
+        Event::Claim => claim(book, jobs, pass),
+        Event::Begin => begin(book, jobs, pass),
+        Event::End => end(book, jobs, pass),
+    }
+}

@@ -1,0 +1,165 @@
+//! The answers of random scripts beside those of the plain program.
+
+ghost use Rattle.std.specs.Prelude.{◌<◌};
+ghost use Rattle.plan_model.specs.Limits.{IsSize, IsLevelCount};
+
+use crate::tests::keeper::Keeper;
+use height_pyramid::Grid;
+use plan_model::{Answer, Entry, Event};
+use plan_plain::{PlainAsked, PlainState, are_asked, run};
+use std::alloc::{AllocError, Global};
+use std::process::Abort;
+use std::test::Fail;
+
+// The next number of a generator.
+fn next(seed: u64) -> u64 {
+    seed.wrapping_mul(6364136223846793005)
+        .wrapping_add(1442695040888963407)
+}
+
+// A number below n, of a seed.
+fn below(seed: u64, n: u32) -> u32
+    requires { 0 < n }
+    ensures { result < n }
+{
+    ((seed >> 33) % u64::from(n)) as u32
+}
+
+// A coordinate: mostly near the corner, and sometimes anywhere within the limits.
+fn coordinate(seed: u64) -> i32 {
+    if below(next(seed), 6) == 0 {
+        return below(seed, 8388609) as i32 - 4194304;
+    }
+    below(seed, 81) as i32 - 40
+}
+
+// An altitude: mostly 0, and sometimes high.
+fn altitude(seed: u64) -> u32 {
+    if below(next(seed), 2) == 0 {
+        return 0;
+    }
+    below(seed, 300)
+}
+
+// A move of a seed.
+fn moved(seed: u64) -> Event {
+    Event::Move {
+        x: coordinate(seed),
+        y: coordinate(next(next(seed))),
+        a: altitude(next(next(next(seed)))),
+    }
+}
+
+// An event of a seed.
+fn event(seed: u64, levels: u8) -> Event
+    requires { IsLevelCount levels }
+{
+    match below(seed, 100) {
+        0 => moved(next(seed)),
+        1 => Event::Begin,
+        2..6 => Event::End,
+        6..50 => Event::Claim,
+        50..94 => Event::Finish,
+        _ => Event::Publish {
+            level: below(next(seed), u32::from(levels)) as u8,
+        },
+    }
+}
+
+// So many events of a seed.
+fn events(alloc: Global, levels: u8, seed: u64, count: u32) -> Result<Vec<PlainAsked>, AllocError>
+    requires { IsLevelCount levels }
+{
+    let mut out = Vec::new(alloc);
+    let mut seed = seed;
+    'made: for _ in 0..count {
+        seed = next(seed);
+        let pass = below(next(seed), 16) as u8;
+        out.push(PlainAsked {
+            pass,
+            event: event(seed, levels),
+        })?;
+    }
+    Ok(out)
+}
+
+// The sample of a terrain at a place.
+fn sample(n: u32) -> i16 {
+    (next(u64::from(n)) >> 51) as i16
+}
+
+// A terrain of hills without a pattern.
+fn terrain(rt: &impl Abort, alloc: Global) -> Result<Grid, AllocError> {
+    let mut heights = Vec::with_capacity(alloc, 20000)?;
+    'made: for n in 0..20000u32 {
+        heights.push(sample(n))?;
+    }
+    assert!(rt; heights.len() == 20000);
+    Ok(Grid::new(200, 100, heights))
+}
+
+// Takes an event and compares the answer, and the heights of the pass's frame at its beginning and before its end.
+fn take(rt: &impl Abort, book: &mut Keeper, entry: &Entry) {
+    if matches!(entry.event, Event::End) {
+        assert!(rt; entry.pass < 16);
+        book.look(rt, entry.pass);
+    }
+    let answer = book.step(rt, entry.pass, entry.event);
+    assert_eq!(rt; answer, entry.answer);
+    if matches!(answer, Answer::Frame { .. }) {
+        assert!(rt; entry.pass < 16);
+        book.look(rt, entry.pass);
+    }
+}
+
+// Takes the events of a history, and compares each answer.
+fn follow(rt: &impl Abort, book: &mut Keeper, history: &[Entry]) {
+    for entry in history {
+        take(rt, book, entry);
+    }
+}
+
+// Takes so many events, and compares each answer with the plain program's.
+fn compare(
+    rt: &impl Abort,
+    alloc: Global,
+    k: u8,
+    levels: u8,
+    seed: u64,
+    count: u32,
+) -> Result<(), Fail>
+    requires k { IsSize k }
+    requires levels { IsLevelCount levels }
+{
+    let events = events(alloc, levels, seed, count)?;
+    assert!(rt; events.len() < 1000000 && are_asked(levels, events.as_slice()));
+    let state = PlainState::start(alloc, k, levels)?;
+    let left = run(alloc, state, events.as_slice())?;
+    let mut book = Keeper::start(alloc, terrain(rt, alloc)?, k, levels)?;
+    follow(rt, &mut book, left.history());
+    Ok(())
+}
+
+#[test]
+fn one_level(rt: HostRuntime) -> Result<(), Fail> {
+    compare(&rt, rt.alloc(), 4, 1, 1, 10000)?;
+    compare(&rt, rt.alloc(), 5, 1, 2, 10000)
+}
+
+#[test]
+fn some_levels(rt: HostRuntime) -> Result<(), Fail> {
+    compare(&rt, rt.alloc(), 4, 3, 3, 10000)?;
+    compare(&rt, rt.alloc(), 6, 2, 4, 10000)
+}
+
+#[test]
+fn twelve_levels(rt: HostRuntime) -> Result<(), Fail> {
+    compare(&rt, rt.alloc(), 4, 12, 5, 10000)?;
+    compare(&rt, rt.alloc(), 5, 12, 6, 10000)
+}
+
+#[test]
+fn great_windows(rt: HostRuntime) -> Result<(), Fail> {
+    compare(&rt, rt.alloc(), 7, 2, 7, 1000)?;
+    compare(&rt, rt.alloc(), 8, 3, 8, 500)
+}
