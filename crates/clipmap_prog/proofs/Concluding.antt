@@ -1,14 +1,14 @@
 -- How a command's reading and its run conclude its outcome.
 use Rattle.std.proofs.Common.{◌≡◌, ℕ, ◌+◌, List, [], ◌∷◌, Option, None, Some, IfSome, IfOk, Result, Ok, Err, refl, sym, subst, arith}
 use Rattle.outer_shelf.specs.Outside.{Files, ShelfTold, SinkTold}
-use Rattle.clipmap_prog.specs.Actions.{Action, Write}
+use Rattle.run_actions.specs.Actions.{Action, Write}
 use Rattle.clipmap_prog.specs.Faults.{Cause, cause_line}
 use Rattle.clipmap_prog.specs.Reading.{Reading}
 use Rattle.clipmap_prog.specs.Outcome.{Outcome, refused, concluded, concluded_by}
-use Rattle.clipmap_prog.specs.Runs.{Leaving, CallsWithin, Ran, WriteEnds}
+use Rattle.run_actions.specs.Runs.{Leaving, CallsWithin, Ran, WriteEnds}
 use Rattle.clipmap_prog.specs.Promise.{with_status, RanTo, Runs}
-use Rattle.clipmap_prog.specs.declared.halt.Halt.{Halt}
-use Rattle.clipmap_prog.proofs.Ends.{within_none, within_more, ran_then, ran_write, ran_none}
+use Rattle.run_actions.specs.declared.halt.Halt.{Halt}
+use Rattle.run_actions.proofs.Ends.{within_none, within_more, ran_then, ran_write, ran_none}
 
 -- what follows for each value of an option
 pub each_some : {A : Type 0} (P Q : A → Type 0) (o : Option A) → ((a : A) → P a → Q a) → IfSome o P → IfSome o Q

@@ -7,14 +7,14 @@ use Rattle.hgt_tiles.specs.TileView.{TileView}
 use Rattle.clipmap_prog.specs.Faults.{Cause, cause_of}
 use Rattle.clipmap_prog.specs.Inputs.{InputsView, NamedTile, inputs_view, joined, name_reading, named_reading, named_view, tile_of_file, tile_reading, tiles_reading}
 use Rattle.clipmap_prog.specs.Reading.{Reading, Finds, OnStop, each_of, unfetched}
-use Rattle.clipmap_prog.specs.Runs.{CallsWithin}
-use Rattle.clipmap_prog.specs.declared.halt.Halt.TheVariants as halt
+use Rattle.run_actions.specs.Runs.{CallsWithin}
+use Rattle.run_actions.specs.declared.halt.Halt.TheVariants as halt
 use Rattle.clipmap_prog.specs.declared.inputs.Inputs.{Inputs}
 use Rattle.clipmap_prog.specs.declared.reading.Stop.{Stop}
 use Rattle.clipmap_prog.specs.declared.reading.Stop.TheVariants as stop
 use Rattle.clipmap_prog.specs.declared.tile_files.Named.{Named}
 use Rattle.clipmap_prog.proofs.Concluding.{each_some, both_some}
-use Rattle.clipmap_prog.proofs.Ends.{within_none, within_one, within_add, within_more}
+use Rattle.run_actions.proofs.Ends.{within_none, within_one, within_add, within_more}
 use Rattle.clipmap_prog.proofs.Readings.{then_found, then_fetches, then_refused, then_more, turn_found, turn_fetches, turn_refused, turn_so_far}
 
 -- a reading that stopped for the shelf stopped after a rise, also since an earlier time

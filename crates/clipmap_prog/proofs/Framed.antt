@@ -6,13 +6,13 @@ use Rattle.clipmap_prog.specs.Courses.{Prepared}
 use Rattle.clipmap_prog.specs.Faults.{Cause}
 use Rattle.clipmap_prog.specs.Frame.{frame_over, frame_reading, levelled}
 use Rattle.clipmap_prog.specs.Reading.{Finds, unfetched}
-use Rattle.clipmap_prog.specs.Runs.{CallsWithin}
+use Rattle.run_actions.specs.Runs.{CallsWithin}
 use Rattle.clipmap_prog.specs.Sources.{source_view, sources_reading}
 use Rattle.clipmap_prog.specs.Stores.{Verdict}
 use Rattle.clipmap_prog.specs.declared.reading.Stop.{Stop}
 use Rattle.clipmap_prog.specs.declared.sources.Source.{Source}
 use Rattle.clipmap_prog.proofs.Concluding.{each_some}
-use Rattle.clipmap_prog.proofs.Ends.{within_more}
+use Rattle.run_actions.proofs.Ends.{within_more}
 use Rattle.clipmap_prog.proofs.Fetching.{stops}
 use Rattle.clipmap_prog.proofs.Readings.{then_found, then_more, then_refused}
 

@@ -1,6 +1,4 @@
 pub mod Concluding
-pub mod Ends
-mod Examples
 pub mod Fetching
 pub mod Framed
 pub mod Lists
@@ -8,5 +6,5 @@ pub mod Mosaics
 pub mod Readings
 pub mod Sourced
 pub mod Standing
+pub mod Statuses
 pub mod Tiles
-pub mod Writing

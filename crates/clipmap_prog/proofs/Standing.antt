@@ -3,10 +3,10 @@ use Rattle.std.proofs.Common.{◌≡◌, ℕ, ◌+◌, ◌≤◌, IfOk, Result, 
 use Rattle.outer_shelf.specs.Outside.{Files, ShelfTold, SinkTold}
 use Rattle.clipmap_prog.specs.Outcome.{Outcome}
 use Rattle.clipmap_prog.specs.Promise.{Finishes, Halts, IsComplete, IsDone, RanTo, Runs, ShelfCallsWithin, SinkCallsWithin, Stands, status_of}
-use Rattle.clipmap_prog.specs.Actions.{content_of, put_count, write_count}
-use Rattle.clipmap_prog.specs.Runs.{Leaving, CallsWithin, HadReason, HaltedIn}
-use Rattle.clipmap_prog.specs.declared.halt.Halt.{Halt}
-use Rattle.clipmap_prog.specs.declared.halt.Halt.TheVariants as halt
+use Rattle.run_actions.specs.Actions.{content_of, put_count, write_count}
+use Rattle.run_actions.specs.Runs.{Leaving, CallsWithin, HadReason, HaltedIn}
+use Rattle.run_actions.specs.declared.halt.Halt.{Halt}
+use Rattle.run_actions.specs.declared.halt.Halt.TheVariants as halt
 use Rattle.clipmap_prog.proofs.Concluding.{each_some}
 
 module _ (leaves : Leaving) (outcome : Files → Outcome) (s s1 : ShelfTold) (k k1 : SinkTold) where

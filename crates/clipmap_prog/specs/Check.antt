@@ -6,7 +6,7 @@ use Rattle.mesh_check.specs.Verdict.{verdict}
 use Rattle.mesh_check.specs.declared.verdict.Verdict.{Verdict}
 use Rattle.mesh_check.specs.declared.verdict.Verdict.TheVariants.{Watertight}
 use Rattle.clipmap_words.specs.Check.{CheckView}
-use Rattle.clipmap_prog.specs.Actions.{Action, Write}
+use Rattle.run_actions.specs.Actions.{Action, Write}
 use Rattle.clipmap_prog.specs.Faults.{Cause, File, Mesh}
 use Rattle.clipmap_prog.specs.declared.fault.FileFault.TheVariants.{Absent, TooLong}
 use Rattle.clipmap_prog.specs.Outcome.{Outcome, concluded}

@@ -2,7 +2,7 @@
 use Rattle.std.specs.Prelude.{ℕ, ℤ, List}
 use Rattle.terrain_model.specs.Terrain.{Terrain}
 use Rattle.plan_model.specs.Limits.{IsSize, IsViewed}
-use Rattle.clipmap_prog.specs.Actions.{Action}
+use Rattle.run_actions.specs.Actions.{Action}
 use Rattle.clipmap_prog.specs.WholeFrame.{frame_actions}
 use Rattle.clipmap_prog.specs.declared.course.Course as course
 use Rattle.clipmap_prog.specs.declared.course.Course.TheVariants as variant

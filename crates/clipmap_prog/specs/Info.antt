@@ -3,7 +3,7 @@ use Rattle.std.specs.Prelude.{ℕ, List, [], ◌∷◌}
 use Rattle.outer_shelf.specs.Outside.{Files}
 use Rattle.terrain_lines.specs.Lines.{heights_line, store_line, terrain_line, tiles_line}
 use Rattle.clipmap_words.specs.Info.{InfoView}
-use Rattle.clipmap_prog.specs.Actions.{Action, Write}
+use Rattle.run_actions.specs.Actions.{Action, Write}
 use Rattle.clipmap_prog.specs.Inputs.{Tiles as tiles_of}
 use Rattle.clipmap_prog.specs.Outcome.{Outcome, concluded}
 use Rattle.clipmap_prog.specs.Sources.{SourceView, Tiles, Store, sources_reading, terrain_of}

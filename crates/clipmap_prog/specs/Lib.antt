@@ -1,4 +1,3 @@
-pub mod Actions
 pub mod Check
 pub mod Commands
 pub mod Courses
@@ -11,7 +10,6 @@ pub mod Pack
 pub mod Program
 pub mod Promise
 pub mod Reading
-pub mod Runs
 pub mod Sources
 pub mod Stores
 pub mod Verdicts

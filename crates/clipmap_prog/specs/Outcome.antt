@@ -1,6 +1,6 @@
 -- What a command comes to: a status, how many files are fetched, and the puts and writes in their order.
 use Rattle.std.specs.Prelude.{ℕ, List, [], ◌∷◌, Result, Ok, Err}
-use Rattle.clipmap_prog.specs.Actions.{Action, Write}
+use Rattle.run_actions.specs.Actions.{Action, Write}
 use Rattle.clipmap_prog.specs.Faults.{Cause, cause_line}
 use Rattle.clipmap_prog.specs.Reading.{Reading}
 

@@ -7,7 +7,7 @@ use Rattle.terrain_lines.specs.Extremes.{all_blocks}
 use Rattle.terrain_lines.specs.Lines.{packed_line}
 use Rattle.clipmap_words.specs.Pack.{PackView}
 use Rattle.clipmap_words.specs.PackBy.{PackByView}
-use Rattle.clipmap_prog.specs.Actions.{Action, Put, Write}
+use Rattle.run_actions.specs.Actions.{Action, Put, Write}
 use Rattle.clipmap_prog.specs.Inputs.{InputsView, tiles_reading, terrain_of}
 use Rattle.clipmap_prog.specs.Outcome.{Outcome, concluded}
 use Rattle.clipmap_prog.specs.Sources.{SourceView, sources_reading, terrain_of as source_terrain}

@@ -3,11 +3,11 @@ use Rattle.std.specs.Prelude.{◌≡◌, ℕ, ◌≤◌, ◌+◌, List, IfOk, If
 use Rattle.outer_shelf.specs.Counts.{Rose}
 use Rattle.outer_shelf.specs.Outside.{Files, ShelfTold, SinkTold}
 use Rattle.clipmap_words.specs.Commands.{command_of}
-use Rattle.clipmap_prog.specs.Actions.{Content, Same, content_after, content_of, put_count, write_count}
+use Rattle.run_actions.specs.Actions.{Content, Same, content_after, content_of, put_count, write_count}
 use Rattle.clipmap_prog.specs.Outcome.{Outcome}
-use Rattle.clipmap_prog.specs.Runs.{Leaving, HaltedIn, Ran, CallsWithin}
-use Rattle.clipmap_prog.specs.declared.halt.Halt.{Halt}
-use Rattle.clipmap_prog.specs.declared.halt.Halt.TheVariants as halt
+use Rattle.run_actions.specs.Runs.{Leaving, HaltedIn, Ran, CallsWithin}
+use Rattle.run_actions.specs.declared.halt.Halt.{Halt}
+use Rattle.run_actions.specs.declared.halt.Halt.TheVariants as halt
 
 -- a run that was done has that status, and one that halted has none
 abbrev pub with_status : ℕ → Result (Unit {0}) Halt → Result ℕ Halt

@@ -1,7 +1,7 @@
 -- What the words of a command and the files come to, with the number of files that are fetched for it.
 use Rattle.std.specs.Prelude.{◌≡◌, ℕ, ◌+◌, List, [], ◌∷◌, Result, Ok, Err, ⊤}
 use Rattle.clipmap_prog.specs.Faults.{Cause, cause_of}
-use Rattle.clipmap_prog.specs.declared.halt.Halt.TheVariants as halt
+use Rattle.run_actions.specs.declared.halt.Halt.TheVariants as halt
 use Rattle.clipmap_prog.specs.declared.reading.Stop.{Stop}
 use Rattle.clipmap_prog.specs.declared.reading.Stop.TheVariants as stop
 

@@ -3,7 +3,7 @@ use Rattle.std.specs.Prelude.{ℕ, ℤ, List, [], ◌∷◌, ◌++◌, codes, de
 use Rattle.terrain_model.specs.Terrain.{Terrain}
 use Rattle.mesh_model.specs.Text.{frame_text}
 use Rattle.grid_frames.specs.Whole.{whole_regions, whole_mesh}
-use Rattle.clipmap_prog.specs.Actions.{Action, Put, Write}
+use Rattle.run_actions.specs.Actions.{Action, Put, Write}
 
 -- the text of that frame, which has number 0
 unfoldable pub whole_text : ℕ → ℕ → ℤ → ℤ → Terrain → List ℕ

@@ -8,16 +8,16 @@ ghost use Rattle.clipmap_words.specs.Check.{check_view};
 ghost use Rattle.clipmap_prog.specs.Check.{check_actions, check_outcome, judged, text_of_file};
 ghost use Rattle.clipmap_prog.specs.Promise.{Runs};
 ghost use Rattle.clipmap_prog.specs.Reading.{Finds, OnStop};
-ghost use Rattle.clipmap_prog.specs.Runs.{CallsWithin, HadReason, Ran, leaves_nothing};
+ghost use Rattle.run_actions.specs.Runs.{CallsWithin, HadReason, Ran, leaves_nothing};
 
 use crate::fault::{Fault, FileFault};
-use crate::halt::Halt;
-use crate::output::{ended, write, write_fault};
+use crate::output::{ended, write_fault};
 use crate::reading::Stop;
 use crate::verdicts::watertight_line;
 use clipmap_words::CheckWords;
 use mesh_check::{Verdict, check_text};
 use outer_shelf::{Fetched, Shelf, Sink};
+use run_actions::{Halt, write};
 use std::alloc::Global;
 
 /// The most bytes that a file to be judged may have.

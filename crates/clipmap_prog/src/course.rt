@@ -1,16 +1,15 @@
 //! The run of a course, once the words and the files have come to one.
 ghost use Rattle.std.specs.Prelude.{◌≡◌, ◌∷◌, [], string_bytes};
 ghost use Rattle.plan_model.specs.Limits.{IsLevelCount};
-ghost use Rattle.clipmap_prog.specs.Actions.{Put, Write};
+ghost use Rattle.run_actions.specs.Actions.{Put, Write};
 ghost use Rattle.clipmap_prog.specs.Courses.{IsCourseInRange, course_actions, course_view};
-ghost use Rattle.clipmap_prog.specs.Runs.{HadReason, Ran};
+ghost use Rattle.run_actions.specs.Runs.{HadReason, Ran};
 
 use crate::draw::{Drawn, draw};
-use crate::halt::Halt;
-use crate::output::{put, write};
 use grid_frames::Viewer;
 use height_pyramid::Grid;
 use outer_shelf::{Shelf, Sink};
+use run_actions::{Halt, put, write};
 use std::alloc::Global;
 
 /// What is to be done over any terrain.

@@ -5,19 +5,19 @@ ghost use Rattle.clipmap_words.specs.Frame.{IsFrameInRange, frame_view};
 ghost use Rattle.clipmap_prog.specs.Frame.{frame_outcome, frame_over, frame_reading, levelled};
 ghost use Rattle.clipmap_prog.specs.Promise.{Runs};
 ghost use Rattle.clipmap_prog.specs.Reading.{Finds, OnStop};
-ghost use Rattle.clipmap_prog.specs.Runs.{CallsWithin, HadReason};
+ghost use Rattle.run_actions.specs.Runs.{CallsWithin, HadReason};
 ghost use Rattle.clipmap_prog.specs.Sources.{source_view};
 ghost use Rattle.clipmap_prog.specs.Stores.{ByVerdict, Verdict};
 
 use crate::course::{Course, run_course};
 use crate::fault::Fault;
-use crate::halt::Halt;
 use crate::output::{ended, write_fault};
 use crate::reading::Stop;
 use crate::sources::{Source, read_sources};
 use clipmap_words::FrameWords;
 use grid_frames::Viewer;
 use outer_shelf::{Shelf, Sink};
+use run_actions::Halt;
 use std::alloc::Global;
 
 // The inputs, if they may have so many levels as the frame: a store has its own number.

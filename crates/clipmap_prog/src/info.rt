@@ -3,19 +3,19 @@ ghost use Rattle.std.specs.Prelude.{◌≡◌, ◌∷◌, [], ◌⊎◌, IfOk, s
 ghost use Rattle.outer_shelf.specs.Outside.{ShelfTold};
 ghost use Rattle.terrain_lines.specs.Lines.{heights_line, terrain_line};
 ghost use Rattle.clipmap_words.specs.Info.{IsInfoInRange, info_view};
-ghost use Rattle.clipmap_prog.specs.Actions.{Write};
+ghost use Rattle.run_actions.specs.Actions.{Write};
 ghost use Rattle.clipmap_prog.specs.Info.{info_actions, info_outcome, source_line};
 ghost use Rattle.clipmap_prog.specs.Promise.{Runs};
-ghost use Rattle.clipmap_prog.specs.Runs.{HadReason, Ran, leaves_nothing};
+ghost use Rattle.run_actions.specs.Runs.{HadReason, Ran, leaves_nothing};
 ghost use Rattle.clipmap_prog.specs.Sources.{source_view, terrain_of};
 ghost use Rattle.clipmap_prog.specs.Stores.{ByVerdict};
 
-use crate::halt::Halt;
-use crate::output::{ended, write, write_fault};
+use crate::output::{ended, write_fault};
 use crate::reading::Stop;
 use crate::sources::{Source, read_sources};
 use clipmap_words::InfoWords;
 use outer_shelf::{Shelf, Sink};
+use run_actions::{Halt, write};
 use std::alloc::{AllocError, Global};
 use terrain_lines::{heights_line, store_line, terrain_line, tiles_line};
 

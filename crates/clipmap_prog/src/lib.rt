@@ -8,7 +8,6 @@ mod course;
 mod draw;
 mod fault;
 mod frame;
-mod halt;
 mod info;
 mod inputs;
 #[cfg(test)]
@@ -32,8 +31,8 @@ mod top;
 mod verdicts;
 
 pub use check::TEXT_LIMIT;
-pub use halt::Halt;
 pub use program::{Ended, run_main, run_program};
+pub use run_actions::Halt;
 pub use store_file::STORE_LIMIT;
 pub use tile_files::HGT_LIMIT;
 pub use top::clipmap;

@@ -3,20 +3,20 @@ ghost use Rattle.std.specs.Prelude.{◌≡◌, ◌≤◌, ◌∷◌, [], ◌⊎�
 ghost use Rattle.four_point.specs.Steps.{IsStep};
 ghost use Rattle.clipmap_words.specs.Pack.{IsPackInRange, pack_view};
 ghost use Rattle.clipmap_words.specs.PackBy.{IsPackByInRange, pack_by_view};
-ghost use Rattle.clipmap_prog.specs.Actions.{Put, Write};
+ghost use Rattle.run_actions.specs.Actions.{Put, Write};
 ghost use Rattle.clipmap_prog.specs.Pack.{pack_by_outcome, pack_outcome, store_actions};
 ghost use Rattle.clipmap_prog.specs.Promise.{Runs};
-ghost use Rattle.clipmap_prog.specs.Runs.{HadReason, Ran};
+ghost use Rattle.run_actions.specs.Runs.{HadReason, Ran};
 ghost use Rattle.clipmap_prog.specs.Stores.{ByVerdict};
 
-use crate::halt::Halt;
-use crate::output::{ended, put, write, write_fault};
+use crate::output::{ended, write_fault};
 use crate::reading::Stop;
 use crate::sources::read_sources;
 use crate::tile_files::read_tiles;
 use clipmap_words::{PackByWords, PackWords};
 use height_pyramid::Grid;
 use outer_shelf::{Shelf, Sink};
+use run_actions::{Halt, put, write};
 use std::alloc::Global;
 use store_writer::{canonical_bytes, canonical_bytes_by};
 use terrain_lines::packed_line;

@@ -1,7 +1,7 @@
 //! How the reading of a command's files ends where it finds nothing.
 
 use crate::fault::Fault;
-use crate::halt::Halt;
+use run_actions::Halt;
 
 /// Why a reading found nothing.
 pub(crate) enum Stop<'a> {

@@ -3,16 +3,16 @@ ghost use Rattle.std.specs.Prelude.{◌≡◌, ◌⊎◌, IfOk};
 ghost use Rattle.clipmap_words.specs.Commands.{IsInRange, view_of};
 ghost use Rattle.clipmap_prog.specs.Commands.{command_outcome, store_inputs};
 ghost use Rattle.clipmap_prog.specs.Promise.{Runs};
-ghost use Rattle.clipmap_prog.specs.Runs.{HadReason};
+ghost use Rattle.run_actions.specs.Runs.{HadReason};
 ghost use Rattle.clipmap_prog.specs.Stores.{ByVerdict};
 
 use crate::check::run_check;
 use crate::frame::run_frame;
-use crate::halt::Halt;
 use crate::info::run_info;
 use crate::pack::{run_pack, run_pack_by};
 use clipmap_words::Command;
 use outer_shelf::{Shelf, Sink};
+use run_actions::Halt;
 use std::alloc::Global;
 
 /// Runs a command. `Ok` is the status: 0 where it is done, and 2 where it is refused and the line of its

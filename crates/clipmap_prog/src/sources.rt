@@ -2,7 +2,7 @@
 ghost use Rattle.std.specs.Prelude.{◌≡◌, ◌≤◌, IfSome, length, map as list_map, string_bytes};
 ghost use Rattle.outer_shelf.specs.Counts.{Rose};
 ghost use Rattle.clipmap_prog.specs.Reading.{Finds, OnStop};
-ghost use Rattle.clipmap_prog.specs.Runs.{CallsWithin};
+ghost use Rattle.run_actions.specs.Runs.{CallsWithin};
 ghost use Rattle.clipmap_prog.specs.Sources.{source_view, sources_reading, terrain_of};
 ghost use Rattle.clipmap_prog.specs.Stores.{ByVerdict, Verdict};
 

@@ -6,10 +6,10 @@ ghost use Rattle.clipmap_prog.specs.Reading.{Finds, OnStop};
 ghost use Rattle.clipmap_prog.specs.Stores.{IsVerdict, IsVerdictOnFile, Verdict, store_by, store_of_file, store_view};
 
 use crate::fault::{Fault, FileFault};
-use crate::halt::Halt;
 use crate::reading::Stop;
 use crate::stored::StoreFile;
 use outer_shelf::{Fetched, Shelf};
+use run_actions::Halt;
 use std::alloc::Global;
 use store_model::StoreFault;
 use store_reader::{StoredHeights, read_heights};

@@ -8,15 +8,15 @@ ghost use Rattle.hgt_tiles.specs.TileView.{most_voids, placed};
 ghost use Rattle.clipmap_prog.specs.Inputs.{inputs_view, joined, name_reading, named_reading, named_view};
 ghost use Rattle.clipmap_prog.specs.Inputs.{tile_of_file, tile_reading, tiles_reading};
 ghost use Rattle.clipmap_prog.specs.Reading.{Finds, OnStop, each_of};
-ghost use Rattle.clipmap_prog.specs.Runs.{CallsWithin};
+ghost use Rattle.run_actions.specs.Runs.{CallsWithin};
 
 use crate::fault::{Fault, FileFault};
-use crate::halt::Halt;
 use crate::inputs::Inputs;
 use crate::reading::Stop;
 use hgt_tiles::{Corner, HgtTile, TileFault, read_name, read_tile};
 use mosaic::{MosaicFault, join};
 use outer_shelf::{Fetched, Shelf};
+use run_actions::Halt;
 use std::alloc::{AllocError, Global};
 
 /// The most bytes that an HGT file may have: a square of 3601 samples a side, two bytes a sample.

@@ -3,14 +3,14 @@ ghost use Rattle.std.specs.Prelude.{◌≡◌, ◌≤◌, None, map, string_byte
 ghost use Rattle.clipmap_words.specs.Commands.{command_of};
 ghost use Rattle.clipmap_prog.specs.Commands.{OfOutcome};
 ghost use Rattle.clipmap_prog.specs.Promise.{HasCauses, IsComplete, Runs, ShelfCallsWithin, SinkCallsWithin, Stands, status_of};
-ghost use Rattle.clipmap_prog.specs.Runs.{HadReason, OnHalt};
+ghost use Rattle.run_actions.specs.Runs.{HadReason, OnHalt};
 
 use crate::fault::Fault;
-use crate::halt::Halt;
 use crate::output::{ended, write_fault};
 use crate::run::run;
 use clipmap_words::read_words;
 use outer_shelf::{Shelf, Sink};
+use run_actions::Halt;
 use std::alloc::Global;
 use std::thread::Threads;
 

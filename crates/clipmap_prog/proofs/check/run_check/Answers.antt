@@ -2,10 +2,11 @@ use Rattle.std.proofs.Common.{arith}
 use Rattle.clipmap_words.specs.Check.{CheckView, check_view}
 use Rattle.clipmap_prog.specs.Check.{check_actions, check_outcome, check_reading}
 use Rattle.clipmap_prog.specs.Faults.{cause_of}
-use Rattle.clipmap_prog.specs.Runs.{CallsWithin}
+use Rattle.run_actions.specs.Runs.{CallsWithin}
 use Rattle.clipmap_prog.proofs.Concluding.{concluded_done, concluded_refused, concluded_halted}
 use Rattle.clipmap_prog.proofs.Fetching.{always_some}
-use Rattle.clipmap_prog.proofs.Writing.{ran_more, reason_after, reason_of}
+use Rattle.clipmap_prog.proofs.Statuses.{reason_of}
+use Rattle.run_actions.proofs.Writing.{ran_more, reason_after}
 use Rattle.clipmap_prog.proofs.check.run_check.Goals as goal
 
 pub returns-in-Ok-clause-runs : goal.returns-in-Ok-clause-runs

@@ -1,7 +1,7 @@
 use Rattle.std.proofs.Common.{List, ℕ, ◌∷◌, [], ◌∙◌, subst}
-use Rattle.clipmap_prog.specs.Actions.{Write}
-use Rattle.clipmap_prog.specs.Runs.{Ran, leaves_nothing}
-use Rattle.clipmap_prog.proofs.Ends.{ran_write}
+use Rattle.run_actions.specs.Actions.{Write}
+use Rattle.run_actions.specs.Runs.{Ran, leaves_nothing}
+use Rattle.run_actions.proofs.Ends.{ran_write}
 use Rattle.clipmap_prog.proofs.check.tell.Goals as goal
 
 pub returns-in-Ok-clause-ran : goal.returns-in-Ok-clause-ran

@@ -4,7 +4,8 @@ use Rattle.clipmap_prog.specs.Faults.{cause_of}
 use Rattle.clipmap_prog.specs.Info.{info_actions, info_outcome}
 use Rattle.clipmap_prog.specs.Sources.{source_view, sources_reading}
 use Rattle.clipmap_prog.proofs.Concluding.{concluded_done, concluded_refused, concluded_halted}
-use Rattle.clipmap_prog.proofs.Writing.{ran_more, reason_after, reason_of}
+use Rattle.clipmap_prog.proofs.Statuses.{reason_of}
+use Rattle.run_actions.proofs.Writing.{ran_more, reason_after}
 use Rattle.clipmap_prog.proofs.info.run_info.Goals as goal
 
 pub returns-in-Ok-clause-runs : goal.returns-in-Ok-clause-runs

@@ -1,6 +1,6 @@
 use Rattle.std.proofs.Common.{◌∷◌, [], string_bytes, arith}
-use Rattle.clipmap_prog.specs.Actions.{Write}
-use Rattle.clipmap_prog.proofs.Writing.{reason_after, write_and}
+use Rattle.run_actions.specs.Actions.{Write}
+use Rattle.run_actions.proofs.Writing.{reason_after, write_and}
 use Rattle.clipmap_prog.proofs.info.write_lines.Goals as goal
 
 pub returns-in-Ok-clause-ran : goal.returns-in-Ok-clause-ran

@@ -3,7 +3,7 @@ use Rattle.terrain_model.specs.Terrain.{Terrain}
 use Rattle.clipmap_words.specs.PackBy.{PackByView, pack_by_view}
 use Rattle.clipmap_prog.specs.Faults.{cause_of}
 use Rattle.clipmap_prog.specs.Pack.{pack_by_actions, pack_by_outcome, store_actions}
-use Rattle.clipmap_prog.specs.Runs.{Ran}
+use Rattle.run_actions.specs.Runs.{Ran}
 use Rattle.clipmap_prog.specs.Sources.{source_view, sources_reading}
 use Rattle.clipmap_prog.proofs.Concluding.{concluded_done, concluded_refused, concluded_halted}
 use Rattle.clipmap_prog.proofs.pack.run_pack_by.Goals as goal

@@ -2,7 +2,7 @@ use Rattle.std.proofs.Common.{◌≡◌, ◌+◌, ◌∷◌, [], ◌++◌, List,
 use Rattle.std.proofs.lemmas.List.{take_all}
 use Rattle.outer_shelf.specs.Outside.{Files}
 use Rattle.clipmap_prog.specs.declared.tile_files.Named.{Named}
-use Rattle.clipmap_prog.specs.Runs.{CallsWithin}
+use Rattle.run_actions.specs.Runs.{CallsWithin}
 use Rattle.clipmap_prog.proofs.Lists.{of_ok}
 use Rattle.clipmap_prog.proofs.Fetching.{always_some, fetched_of, next_found, next_stopped, next_calls, last_calls, no_calls, stopped_later}
 use Rattle.clipmap_prog.proofs.tile_files.fetch_tiles.Goals as goal

@@ -1,7 +1,7 @@
 use Rattle.std.proofs.Common.{◌≡◌, ◌≤◌, IfSome, map, take, Ok, vec_len}
 use Rattle.clipmap_prog.specs.Inputs.{tile_reading, named_view}
 use Rattle.clipmap_prog.specs.Reading.{each_of}
-use Rattle.clipmap_prog.specs.Runs.{CallsWithin}
+use Rattle.run_actions.specs.Runs.{CallsWithin}
 use Rattle.clipmap_prog.proofs.tile_files.fetch_tiles.Given as goal
 
 -- the files so far were fetched and read, and the shelf told no other

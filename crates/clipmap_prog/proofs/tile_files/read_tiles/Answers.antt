@@ -1,7 +1,7 @@
 use Rattle.std.proofs.Common.{◌≡◌, ◌∙◌, sym, ap, map, string_bytes, Ok}
 use Rattle.clipmap_prog.specs.Inputs.{name_reading, named_view, tiles_reading}
 use Rattle.clipmap_prog.specs.Reading.{each_of}
-use Rattle.clipmap_prog.specs.Runs.{CallsWithin}
+use Rattle.run_actions.specs.Runs.{CallsWithin}
 use Rattle.clipmap_prog.proofs.Fetching.{always_some, no_calls, tiles_found, tiles_stopped, tiles_calls}
 use Rattle.clipmap_prog.proofs.tile_files.read_tiles.Goals as goal
 

@@ -2,10 +2,10 @@
 use Rattle.std.proofs.Common.{◌≡◌, ℕ, ◌+◌, ◌≤◌, List, [], ◌∷◌, ◌++◌, Option, None, Some, Result, Ok, Err, inl, inr, refl, sym, ap, ◌∙◌, subst, arith, option_map}
 use Rattle.outer_shelf.specs.Counts.{Rose, one_more}
 use Rattle.outer_shelf.specs.Outside.{ShelfTold, SinkTold}
-use Rattle.clipmap_prog.specs.Actions.{Action, Put, Write, Content, Same, act, content_after, content_of, put_count, write_count}
-use Rattle.clipmap_prog.specs.Runs.{Leaving, HaltedIn, Did, CallsWithin, Ran, OnHalt, HadReason, PutEnds, WriteEnds}
-use Rattle.clipmap_prog.specs.declared.halt.Halt.{Halt}
-use Rattle.clipmap_prog.specs.declared.halt.Halt.TheVariants as halt
+use Rattle.run_actions.specs.Actions.{Action, Put, Write, Content, Same, act, content_after, content_of, put_count, write_count}
+use Rattle.run_actions.specs.Runs.{Leaving, HaltedIn, Did, CallsWithin, Ran, OnHalt, HadReason, PutEnds, WriteEnds}
+use Rattle.run_actions.specs.declared.halt.Halt.{Halt}
+use Rattle.run_actions.specs.declared.halt.Halt.TheVariants as halt
 
 same_is : (before now : Content) → Same before now → now ≡ before
 same_is before now same =

@@ -1,13 +1,11 @@
 -- A run that calls no shelf is a run whatever a shelf leaves of a refused put.
-use Rattle.std.proofs.Common.{◌≡◌, ℕ, ◌≤◌, List, [], ◌∷◌, Result, Ok, Err, inl, inr, sym, subst}
-use Rattle.outer_shelf.specs.Counts.{Rose}
+use Rattle.std.proofs.Common.{◌≡◌, ℕ, ◌≤◌, List, [], ◌∷◌, Result, Ok, Err, inl, inr, subst}
 use Rattle.outer_shelf.specs.Outside.{ShelfTold, SinkTold}
-use Rattle.clipmap_prog.specs.Actions.{Action, Put, Write, Content, act, content_of}
-use Rattle.clipmap_prog.specs.Promise.{with_status}
-use Rattle.clipmap_prog.specs.Runs.{CallsWithin, Leaving, LeftBy, HaltedIn, Did, HadReason, OnHalt, Ran, WriteEnds, leaves_nothing}
-use Rattle.clipmap_prog.specs.declared.halt.Halt.{Halt}
-use Rattle.clipmap_prog.specs.declared.halt.Halt.TheVariants as halt
-use Rattle.clipmap_prog.proofs.Ends.{ran_then, ran_write, reason_then}
+use Rattle.run_actions.specs.Actions.{Action, Put, Write, Content, act, content_of}
+use Rattle.run_actions.specs.Runs.{CallsWithin, Leaving, LeftBy, HaltedIn, Did, HadReason, Ran, WriteEnds, leaves_nothing}
+use Rattle.run_actions.specs.declared.halt.Halt.{Halt}
+use Rattle.run_actions.specs.declared.halt.Halt.TheVariants as halt
+use Rattle.run_actions.proofs.Ends.{ran_then, ran_write, reason_then}
 
 left_more : (leaves : Leaving) (h : Halt) (action : Action) (before now : Content) → LeftBy leaves_nothing h action before now → LeftBy leaves h action before now
 left_more leaves halt.ShelfFailed (Put name bytes) before now left = absurd left.left
@@ -49,16 +47,3 @@ pub reason_after : (result : Result (Unit {0}) Halt) (s s1 s2 : ShelfTold) (k k1
 reason_after result s s1 s2 k k1 k2 shelf_stays sink_stays reason =
     let done : HadReason {A = Unit {0}} (Ok tt) s s1 k k1 = record { reason = tt; shelf_stays = shelf_stays; sink_stays = sink_stays } in
     reason_then {A = Unit {0}} tt result s s1 s2 k k1 k2 done reason
-
--- the same of the answer with a status
-status_reason : (status : ℕ) (result : Result (Unit {0}) Halt) (s s1 : ShelfTold) (k k1 : SinkTold) → HadReason result s s1 k k1 → HadReason (with_status status result) s s1 k k1
-status_reason status (Ok x) s s1 k k1 reason = record { reason = tt; shelf_stays = reason.shelf_stays; sink_stays = reason.sink_stays }
-status_reason status (Err h) s s1 k k1 reason = record { reason = halted h reason.reason; shelf_stays = reason.shelf_stays; sink_stays = reason.sink_stays } where
-  halted : (h : Halt) → OnHalt {A = Unit {0}} (Err h) (Rose s.faults s1.faults) (Rose k.faults k1.faults) → OnHalt {A = ℕ} (Err h) (Rose s.faults s1.faults) (Rose k.faults k1.faults)
-  halted halt.ShelfFailed rose = rose
-  halted halt.SinkFailed rose = rose
-  halted halt.NoMemory rose = rose
-
-pub reason_of : (status : ℕ) (result : Result (Unit {0}) Halt) (out : Result ℕ Halt) (s s1 : ShelfTold) (k k1 : SinkTold) →
-    out ≡ with_status status result → HadReason result s s1 k k1 → HadReason out s s1 k k1
-reason_of status result out s s1 k k1 is reason = subst (λ o. HadReason o s s1 k k1) (sym is) (status_reason status result s s1 k k1 reason)

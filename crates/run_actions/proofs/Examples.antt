@@ -5,9 +5,9 @@ use Rattle.std.specs.Cmp.Lexicographic.{slice_cmp, nat_list_cmp_total}
 use Rattle.std.specs.Prelude.{⊤, option_and_then}
 use Rattle.std.specs.FinMap as map
 use Rattle.outer_shelf.specs.Outside.{Files, files_with}
-use Rattle.clipmap_prog.specs.Actions.{Action, Put, Write, Content}
-use Rattle.clipmap_prog.specs.Runs.{Leaving, Did}
-use Rattle.clipmap_prog.specs.declared.halt.Halt.TheVariants as halt
+use Rattle.run_actions.specs.Actions.{Action, Put, Write, Content}
+use Rattle.run_actions.specs.Runs.{Leaving, Did}
+use Rattle.run_actions.specs.declared.halt.Halt.TheVariants as halt
 
 -- a file is put under the name `a`, and then two bytes are written
 abbrev both : List Action

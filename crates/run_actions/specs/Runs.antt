@@ -4,9 +4,9 @@
 use Rattle.std.specs.Prelude.{◌≡◌, ℕ, ◌+◌, ◌≤◌, List, [], ◌∷◌, ◌++◌, Option, None, option_map, IsSomeAnd, MatchOption, Result, Ok, Err, ◌⊎◌, ⊤}
 use Rattle.outer_shelf.specs.Counts.{Rose}
 use Rattle.outer_shelf.specs.Outside.{AppendsFront, Files, SameElsewhere, ShelfTold, SinkTold, files_with}
-use Rattle.clipmap_prog.specs.Actions.{Action, Put, Write, Content, Same, act, content_after, content_of, put_count, write_count}
-use Rattle.clipmap_prog.specs.declared.halt.Halt.{Halt}
-use Rattle.clipmap_prog.specs.declared.halt.Halt.TheVariants as halt
+use Rattle.run_actions.specs.Actions.{Action, Put, Write, Content, Same, act, content_after, content_of, put_count, write_count}
+use Rattle.run_actions.specs.declared.halt.Halt.{Halt}
+use Rattle.run_actions.specs.declared.halt.Halt.TheVariants as halt
 
 -- a shelf's own word for what a refused put of these bytes under that name may leave, of the files before and after
 abbrev pub Leaving : Type 1
