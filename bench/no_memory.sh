@@ -1,0 +1,149 @@
+#!/usr/bin/env bash
+# Refuses each request for memory of a run of the built program in turn, first that one alone and then that one and
+# every later one, up to the last. A run has to end with status 5, or with its own where a request was none that counts,
+# with a front of its lines; each file that it puts is whole or isn't there, the files that were there stay as they were,
+# and a line never stands without its file. It prints a row a run. Needs cc.
+set -eu
+top=$(cd "$(dirname "${BASH_SOURCE[0]}")/.." && pwd)
+work=$(mktemp -d)
+trap 'rm -rf "$work"' EXIT
+cd "$work"
+
+# The first call builds the program where it isn't built yet; it answers with its one fault.
+[ -n "${CLIPMAP:-}" ] || "$top/clipmap" >/dev/null || true
+program=${CLIPMAP:-$top/crates/clipmap/out/clipmap}
+
+# A library that is loaded before the C library: the request of number REFUSE is refused, and with ONWARD set every
+# later one too. It says on standard error how many there were when the program ends, and that one was refused.
+cat >refuse.c <<'C'
+#define _GNU_SOURCE
+#include <dlfcn.h>
+#include <errno.h>
+#include <stdatomic.h>
+#include <stdlib.h>
+#include <string.h>
+#include <unistd.h>
+
+static atomic_ulong requests;
+static unsigned long refused;
+static int onward;
+
+__attribute__((constructor)) static void begin(void) {
+    const char *number = getenv("REFUSE");
+    refused = number ? strtoul(number, 0, 10) : 0;
+    onward = getenv("ONWARD") != 0;
+    atomic_store(&requests, 0);
+}
+
+static int is_refused(void) {
+    unsigned long number = atomic_fetch_add(&requests, 1) + 1;
+    if (refused == 0 || number < refused || (number > refused && !onward))
+        return 0;
+    if (number == refused && write(2, "refused\n", 8) < 0)
+        return 1;
+    errno = ENOMEM;
+    return 1;
+}
+
+extern void *__libc_malloc(size_t);
+extern void *__libc_calloc(size_t, size_t);
+extern void *__libc_realloc(void *, size_t);
+extern void *__libc_memalign(size_t, size_t);
+
+void *malloc(size_t size) { return is_refused() ? 0 : __libc_malloc(size); }
+void *calloc(size_t count, size_t size) { return is_refused() ? 0 : __libc_calloc(count, size); }
+void *realloc(void *old, size_t size) { return is_refused() ? 0 : __libc_realloc(old, size); }
+void *aligned_alloc(size_t align, size_t size) { return is_refused() ? 0 : __libc_memalign(align, size); }
+void *memalign(size_t align, size_t size) { return is_refused() ? 0 : __libc_memalign(align, size); }
+int posix_memalign(void **out, size_t align, size_t size) {
+    if (is_refused())
+        return ENOMEM;
+    *out = __libc_memalign(align, size);
+    return *out ? 0 : ENOMEM;
+}
+C
+cc -O2 -shared -fPIC -o refuse.so refuse.c -ldl
+
+python3 - "$program" "$work/refuse.so" <<'PY'
+import os, re, shutil, subprocess, sys, tempfile
+program, library = sys.argv[1:]
+
+# A tile of 3 x 3 samples, and what the program makes of it: a store of two levels and a frame.
+NINE = bytes([0, 1, 0, 2, 0, 3, 0, 4, 0, 5, 0, 6, 0, 7, 0, 8, 0, 9])
+base = {'N00E000.hgt': NINE, 'N00E001.hgt': NINE, 'out.obj': b'old', 'out.gct': b'old'}
+
+# Each run: its words, and which file a line of its output tells of, by a pattern with the file's number, if it has one.
+RUNS = [
+    ('frame 4 1 1 1 out.obj N00E000.hgt', r'frame 0 ', 'out.obj'),
+    ('frame 6 3 1 1 out.obj N00E000.hgt N00E001.hgt', r'frame 0 ', 'out.obj'),
+    ('frame 4 2 1 1 out.obj a.gct', r'frame 0 ', 'out.obj'),
+    ('pack 2 out.gct N00E000.hgt', r'packed ', 'out.gct'),
+    ('packq 2 3 out.gct a.gct', r'packed ', 'out.gct'),
+    ('info N00E000.hgt N00E001.hgt', None, None),
+    ('info a.gct', None, None),
+    ('check a.obj', None, None),
+    ('check a.gct', None, None),
+    ('frame', None, None),
+]
+
+def files_of(folder):
+    return {name: open(os.path.join(folder, name), 'rb').read() for name in sorted(os.listdir(folder))}
+
+# Runs the words in a new folder with these files: the status, the output, whether a request was refused, and the files.
+def run(words, files, number=0, onward=False):
+    folder = tempfile.mkdtemp()
+    for name, content in files.items():
+        open(os.path.join(folder, name), 'wb').write(content)
+    names = dict(os.environ)
+    if number:
+        names.update(LD_PRELOAD=library, REFUSE=str(number), **({'ONWARD': '1'} if onward else {}))
+    done = subprocess.run([program] + words.split(), cwd=folder, env=names, capture_output=True, timeout=60)
+    left = files_of(folder)
+    shutil.rmtree(folder)
+    return done.returncode, done.stdout, b'refused\n' in done.stderr, left
+
+# Why this end isn't right, or None. The whole run is the same one without a refusal.
+def fault(end, whole, files, pattern, name):
+    status, output, _, left = end
+    if status not in (5, whole[0]):
+        return 'status %d' % status
+    if status != 5 and (output, left) != (whole[1], whole[3]):
+        return 'status %d with other files or lines' % status
+    if not whole[1].startswith(output):
+        return 'other lines'
+    for other in set(left) | set(files):
+        if left.get(other) != files.get(other) and left.get(other) != whole[3].get(other):
+            return 'another %s' % other
+    for line in output.decode().splitlines():
+        found = pattern and re.match(pattern, line)
+        if found:
+            told = name % found.groups()
+            if left.get(told) != whole[3][told]:
+                return 'a line before %s' % told
+    return None
+
+base['a.gct'] = run('pack 2 a.gct N00E000.hgt', base)[3]['a.gct']
+base['a.obj'] = run('frame 4 2 1 1 a.obj N00E000.hgt', base)[3]['a.obj']
+print('| words | refused | requests | ended with 5 | of these the file was put | ended as without a refusal |')
+print('|---|---|---|---|---|---|')
+bad = 0
+for words, pattern, name in RUNS:
+    whole = run(words, base)
+    for onward in (False, True):
+        fives = put = same = number = 0
+        while True:
+            number += 1
+            end = run(words, base, number, onward)
+            reason = fault(end, whole, base, pattern, name)
+            if reason:
+                bad += 1
+                print('%s, request %d: %s' % (words, number, reason), file=sys.stderr)
+            if not end[2]:
+                break
+            fives += end[0] == 5
+            put += end[0] == 5 and end[3] != base
+            same += end[0] == whole[0]
+        kind = 'one and all later' if onward else 'one'
+        print('| `%s` | %s | %d | %d | %d | %d |' % (words, kind, number - 1, fives, put, same))
+sys.exit(1 if bad else 0)
+PY
