@@ -1,0 +1,17 @@
+//! Trials of the whole program: failing calls, and input that is cut or changed. Everything here is a test.
+#![tactic(auto)]
+
+#[cfg(test)]
+mod calls;
+#[cfg(test)]
+mod changes;
+#[cfg(test)]
+mod runs;
+#[cfg(test)]
+mod scripts;
+#[cfg(test)]
+mod stores;
+#[cfg(test)]
+mod texts;
+#[cfg(test)]
+mod tiles;

@@ -1,0 +1,93 @@
+//! Runs of the top call over a shelf and a sink in memory.
+use clipmap_prog::clipmap;
+use outer_shelf::{MemoryShelf, MemorySink, NoMemory, are_names_distinct};
+use std::alloc::{AllocError, Global};
+use std::thread::Threads;
+
+/// The name of a tile.
+pub(crate) const TILE: &str = "N00E000.hgt";
+
+// Words as a command line has them.
+fn owned(alloc: Global, words: &[&str]) -> Result<Vec<String>, AllocError> {
+    let mut all = Vec::new(alloc);
+    for word in words {
+        all.push(String::from_str(alloc, word)?)?;
+    }
+    Ok(all)
+}
+
+// A shelf of files with these names and bytes, whose calls of these numbers fail.
+fn shelf_of(
+    alloc: Global,
+    table: &[(&str, &[u8])],
+    failing: &[u64],
+) -> Result<MemoryShelf, NoMemory> {
+    let mut files = Vec::new(alloc);
+    for (name, bytes) in table {
+        let file = (
+            String::from_str(alloc, name)?,
+            Vec::from_slice(alloc, bytes)?,
+        );
+        if files.push(file).is_err() {
+            return Err(NoMemory);
+        }
+    }
+    if !are_names_distinct(&files) {
+        return Err(NoMemory);
+    }
+    MemoryShelf::new(alloc, files, Vec::from_slice(alloc, failing)?)
+}
+
+/// What a run left: its status, the shelf, and the sink.
+#[derive(Drop)]
+pub(crate) struct Left {
+    pub(crate) status: u8,
+    pub(crate) shelf: MemoryShelf,
+    pub(crate) sink: MemorySink,
+}
+
+impl Left {
+    /// The bytes of the file `o`, under which the runs here put, or nothing.
+    pub(crate) fn out(&self) -> &[u8] {
+        self.shelf.file("o").unwrap_or(b"")
+    }
+
+    /// Whether the command was refused by one line and nothing else: there is no file `o`.
+    pub(crate) fn is_refused(&self, line: &[u8]) -> bool {
+        self.status == 2 && self.sink.bytes() == line && self.shelf.file("o").is_none()
+    }
+}
+
+/// Runs the words over a shelf with these files.
+pub(crate) fn run<R: Threads + Sync + AllocGlobal>(
+    rt: &R,
+    words: &[&str],
+    files: &[(&str, &[u8])],
+) -> Result<Left, NoMemory> {
+    run_failing(rt, words, files, &[], &[])
+}
+
+/// The same, where calls of the shelf and of the sink with these numbers fail.
+pub(crate) fn run_failing<R: Threads + Sync + AllocGlobal>(
+    rt: &R,
+    words: &[&str],
+    files: &[(&str, &[u8])],
+    shelf_failing: &[u64],
+    sink_failing: &[u64],
+) -> Result<Left, NoMemory> {
+    let alloc = rt.alloc();
+    let words = owned(alloc, words)?;
+    let mut shelf = shelf_of(alloc, files, shelf_failing)?;
+    let mut sink = MemorySink::new(alloc, Vec::from_slice(alloc, sink_failing)?);
+    let status = clipmap(rt, alloc, words.as_slice(), &mut shelf, &mut sink);
+    Ok(Left {
+        status,
+        shelf,
+        sink,
+    })
+}
+
+/// How many lines a text has that each end with a line feed.
+pub(crate) fn lines(text: &[u8]) -> usize {
+    text.iter().filter(|byte| **byte == b'\n').count()
+}
