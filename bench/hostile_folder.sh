@@ -80,6 +80,16 @@ input "INPUT is a pipe that nobody writes" 3 N00E001.hgt mkfifo N00E001.hgt
 input "INPUT is a link to a device without an end" 3 N00E001.hgt ln -s /dev/zero N00E001.hgt
 device() { mknod -m 666 N00E001.hgt c 1 5; }
 input "INPUT is a device without an end" 3 N00E001.hgt device
+socket() { python3 -c 'import socket; socket.socket(socket.AF_UNIX).bind("N00E001.hgt")'; }
+input "INPUT is a socket" 3 N00E001.hgt socket
+# A terminal, which somebody holds open.
+python3 -c 'import os, pty, time; a, b = pty.openpty(); os.chmod(os.ttyname(b), 0o666); print(os.ttyname(b), flush=True); time.sleep(20)' >terminal &
+holder=$!
+sleep 0.5
+terminal=$(cat terminal)
+input "INPUT is a link to a terminal" 3 N00E001.hgt ln -s "$terminal" N00E001.hgt
+kill "$holder"
+wait "$holder" 2>/dev/null || true
 input "INPUT is a folder" 3 N00E001.hgt mkdir N00E001.hgt
 input "INPUT is a dangling link" 2 N00E001.hgt ln -s nowhere N00E001.hgt
 input "INPUT is a link to itself" 3 N00E001.hgt ln -s N00E001.hgt N00E001.hgt
@@ -145,6 +155,14 @@ head -n 1 pipe >"$work/read" &
 reader=$!
 try "OUT is a pipe whose reader leaves early" 3 pipe frame 8 12 1 1 pipe N00E000.hgt
 wait "$reader"
+
+# OUT is standard output, a pipe of nobody's own: the text and then the line.
+folder true
+setpriv --reuid=nobody --regid=nogroup --clear-groups bash -c \
+    '("$0" frame 4 1 1 1 /dev/stdout N00E000.hgt 2>errors; echo $? >status) | cat >text' "$work/clipmap"
+tail -n 1 text >"$work/output"
+mv errors "$work/errors"
+row "OUT is standard output, a pipe: its last line" "frame 4 1 1 1 /dev/stdout N00E000.hgt" 0 "$(cat status)" text
 
 # A full disk: OUT is larger than what is free, and replaces a file or not.
 folder true
