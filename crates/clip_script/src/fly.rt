@@ -88,20 +88,12 @@ pub fn read_fly(alloc: Global, bytes: &[u8]) -> Result<FlyScript, ScriptFault>
     ensures few { IfOk result (λ script. vec_len script.lines ≤ 1048577) }
     ensures fault { IfErr result (λ fault. (fault ≡ ScriptFault.NoMemory) ⊎ (flight_of bytes.now ≡ Err fault)) }
 {
-    match count_lines(bytes) {
-        Ok(()) => {}
-        Err(fault) => return Err(fault),
-    }
-    let size = match read_size(bytes) {
-        Ok(size) => size,
-        Err(fault) => return Err(fault),
-    };
-    match read_all(alloc, &FlyLines, size.left) {
-        Ok(lines) => Ok(FlyScript {
-            k: size.said.first as u8,
-            levels: size.said.second as u8,
-            lines,
-        }),
-        Err(fault) => Err(fault),
-    }
+    count_lines(bytes)?;
+    let size = read_size(bytes)?;
+    let lines = read_all(alloc, &FlyLines, size.left)?;
+    Ok(FlyScript {
+        k: size.said.first as u8,
+        levels: size.said.second as u8,
+        lines,
+    })
 }

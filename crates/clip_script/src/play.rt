@@ -139,21 +139,13 @@ pub fn read_play(alloc: Global, bytes: &[u8]) -> Result<PlayScript, ScriptFault>
     ensures few { IfOk result (λ script. vec_len script.steps ≤ 1048577) }
     ensures fault { IfErr result (λ fault. (fault ≡ ScriptFault.NoMemory) ⊎ (play_of bytes.now ≡ Err fault)) }
 {
-    match count_lines(bytes) {
-        Ok(()) => {}
-        Err(fault) => return Err(fault),
-    }
-    let size = match read_size(bytes) {
-        Ok(size) => size,
-        Err(fault) => return Err(fault),
-    };
+    count_lines(bytes)?;
+    let size = read_size(bytes)?;
     let levels = size.said.second as u8;
-    match read_all(alloc, &StepLines { levels }, size.left) {
-        Ok(steps) => Ok(PlayScript {
-            k: size.said.first as u8,
-            levels,
-            steps,
-        }),
-        Err(fault) => Err(fault),
-    }
+    let steps = read_all(alloc, &StepLines { levels }, size.left)?;
+    Ok(PlayScript {
+        k: size.said.first as u8,
+        levels,
+        steps,
+    })
 }

@@ -87,26 +87,15 @@ pub fn read_swarm(alloc: Global, bytes: &[u8]) -> Result<SwarmScript, ScriptFaul
     ensures few { IfOk result (λ script. vec_len script.moves ≤ 1048577) }
     ensures fault { IfErr result (λ fault. (fault ≡ ScriptFault.NoMemory) ⊎ (swarm_of bytes.now ≡ Err fault)) }
 {
-    match count_lines(bytes) {
-        Ok(()) => {}
-        Err(fault) => return Err(fault),
-    }
-    let size = match read_size(bytes) {
-        Ok(size) => size,
-        Err(fault) => return Err(fault),
-    };
-    let work = match read_opening(&WorkLine, size.left) {
-        Ok(work) => work,
-        Err(fault) => return Err(fault),
-    };
-    match read_all(alloc, &MoveLines, work.left) {
-        Ok(moves) => Ok(SwarmScript {
-            k: size.said.first as u8,
-            levels: size.said.second as u8,
-            claims: work.said.first as u32,
-            begins: work.said.second as u32,
-            moves,
-        }),
-        Err(fault) => Err(fault),
-    }
+    count_lines(bytes)?;
+    let size = read_size(bytes)?;
+    let work = read_opening(&WorkLine, size.left)?;
+    let moves = read_all(alloc, &MoveLines, work.left)?;
+    Ok(SwarmScript {
+        k: size.said.first as u8,
+        levels: size.said.second as u8,
+        claims: work.said.first as u32,
+        begins: work.said.second as u32,
+        moves,
+    })
 }

@@ -163,6 +163,12 @@ fn carries_a_store_over(rt: HostRuntime) {
     };
     let want = "474354320000000300000003020100080000000000000000000803fffffffcea6000";
     assert_eq!(rt; found.as_str(), want);
+    let Ok(left) = told(&rt, file.as_slice()) else {
+        panic!(rt; "no memory");
+    };
+    let line = "terrain 3 3\nheights 0 30000\nstore version 2 step 1 levels 2 blocks 2 bytes 34\n";
+    assert_eq!(rt; left.status, 0);
+    assert!(rt; left.output.as_slice() == line.as_bytes());
 }
 
 // A store with other bytes in these places.
