@@ -1,6 +1,7 @@
 #!/usr/bin/env bash
-# Runs the built program over folders that aren't what it hopes for, and prints a row a case: the status, the output, and
-# what became of OUT. It needs root, for a full disk, and runs the program as nobody, since permissions don't bind root.
+# Runs the built program over folders and outputs that aren't what it hopes for, and prints a row a case: the status,
+# the output, and what became of OUT. It needs root, for a full disk and a device, and runs the program as nobody, since
+# permissions don't bind root.
 set -eu
 top=$(cd "$(dirname "${BASH_SOURCE[0]}")/.." && pwd)
 [ "$(id -u)" = 0 ] || { echo "$0: run it as root: it mounts a small disk and becomes nobody" >&2; exit 1; }

@@ -1,8 +1,8 @@
 #!/usr/bin/env bash
 # Refuses each request for memory of a run of the built program in turn, first that one alone and then that one and
-# every later one, up to the last. A run has to end with status 5, or with its own where a request was none that counts,
-# with a front of its lines; each file that it puts is whole or isn't there, the files that were there stay as they were,
-# and a line never stands without its file. It prints a row a run. Needs cc.
+# every later one, up to the last. A run has to end with status 5 and a front of its lines, or as it does without a
+# refusal; each file that it puts is whole or as it was, all others stay as they were, and a line never stands without
+# its file. It prints two rows a run, and a line on standard error where that isn't so. Needs cc.
 set -eu
 top=$(cd "$(dirname "${BASH_SOURCE[0]}")/.." && pwd)
 work=$(mktemp -d)

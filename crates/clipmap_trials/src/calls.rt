@@ -34,8 +34,18 @@ fn puts_of(acts: &[Act<'_>], count: usize) -> usize {
         .count()
 }
 
-// Whether so many puts were done and so many lines written of a run, and nothing else. The whole run has each file that is
-// put.
+// Whether the files that a run doesn't put are as they were.
+fn others_stay(left: &Left, trial: &Trial<'_>) -> bool {
+    let mut passed = true;
+    for (name, bytes) in trial.files {
+        let is_put = trial.acts.iter().any(|act| act.0 == *name);
+        passed &= is_put || left.shelf.file(name) == Some(*bytes);
+    }
+    passed
+}
+
+// Whether so many puts were done and so many lines written of a run, and nothing else. The whole run has each file
+// that is put.
 fn stands(left: &Left, whole: &Left, trial: &Trial<'_>, puts: usize, lines: usize) -> bool {
     let mut rest = left.sink.bytes();
     let mut done = 0usize;
@@ -53,7 +63,7 @@ fn stands(left: &Left, whole: &Left, trial: &Trial<'_>, puts: usize, lines: usiz
             done = done.saturating_add(1);
         }
     }
-    passed && rest.is_empty()
+    passed && rest.is_empty() && others_stay(left, trial)
 }
 
 // The shelf fails at each of its fetches, of which nothing stands, and at each of its puts, of which all before stands.
@@ -93,8 +103,8 @@ fn fail_sink<R: Threads + Sync + AllocGlobal>(
     Ok(passed)
 }
 
-// Tries a run with each of its calls failing in turn. Without a failing call, and where only the calls behind its own would
-// fail, all of it stands.
+// Tries a run with each of its calls failing in turn. Without a failing call, and where only the calls behind its own
+// would fail, all of it stands.
 fn tried<R: Threads + Sync + AllocGlobal>(rt: &R, trial: &Trial<'_>) -> Result<bool, Fail> {
     let whole = run(rt, trial.words, trial.files)?;
     let lines = trial.acts.len();
