@@ -192,9 +192,10 @@ impl Book {
         self.tiles.height(level, i, j)
     }
 
-    /// K.
+    /// K, from 4 to 8.
     pub fn k(&self) -> u8
-        ensures { result ≡ self.now.plan.state.k }
+        ensures value { result ≡ self.now.plan.state.k }
+        ensures size { IsSize result }
     {
         self.plan.k()
     }
