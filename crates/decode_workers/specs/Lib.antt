@@ -1,0 +1,4 @@
+pub mod Fills
+pub mod Drawn
+pub mod Copies
+pub mod Lent
