@@ -25,7 +25,7 @@ use Rattle.plan_flights.proofs.Ripe.{strip_is, part_at}
 use Rattle.plan_laws.proofs.Lists.{All-range, All-flat_map}
 
 -- ---- nothing is held or pinned
-none_pass : {X : Type 0} (test : X → Bool) (xs : List X) → ((x : X) → test x ≡ false) → filter test xs ≡ []
+pub none_pass : {X : Type 0} (test : X → Bool) (xs : List X) → ((x : X) → test x ≡ false) → filter test xs ≡ []
 none_pass test [] h = refl
 none_pass test (x ∷ xs) h = ap (λ (b : Bool). cond b (x ∷ filter test xs) (filter test xs)) (h x) ∙ none_pass test xs h
 
@@ -44,7 +44,7 @@ all_pass p (x ∷ xs) h =
     and_from (p x) (list_all p xs) (All-head (λ y. p y ≡ true) x xs h) (all_pass p xs (All-tail (λ y. p y ≡ true) x xs h))
 
 module _ (st : State) (free : (p : ℕ) → pass_at st p ≡ Free) where
-  none_held : (level : ℕ) (t : TileId) → is_held st level t ≡ false
+  pub none_held : (level : ℕ) (t : TileId) → is_held st level t ≡ false
   unfolding is_held holder
   none_held level t =
       ap (λ (ps : List ℕ). is_some (first_of ps)) (none_pass (λ (p : ℕ). job_holds st.k level t (job_of (pass_at st p))) (range_with_len 0 (length st.passes)) (λ (p : ℕ). ap (λ (pass : Pass). job_holds st.k level t (job_of pass)) (free p)))
@@ -161,7 +161,7 @@ module _ (known : LawsBelow) (st : State) (rest : IsAtRest st) where
   offered_coarsest level r e =
       or_left (level + 1 == length st.levels) (holds (filled_at st (level + 1)) (need r)) (eq-eqb (level + 1) (length st.levels) e)
 
-  window_filled : (level : ℕ) → is_whole st level ≡ true → IsInside (filled_at st level) (window_at st level)
+  pub window_filled : (level : ℕ) → is_whole st level ≡ true → IsInside (filled_at st level) (window_at st level)
   unfolding is_whole same_region
   window_filled level e =
       let parts : (holds (filled_at st level) (window_at st level) ≡ true) × (holds (window_at st level) (filled_at st level) ≡ true) = and_parts (holds (filled_at st level) (window_at st level)) (holds (window_at st level) (filled_at st level)) e in

@@ -122,7 +122,7 @@ less_finishes known st o r good h =
     subst (λ (n : ℕ). HasLess st (fold finish_of r (range_with_len 0 n))) (sym h.sound.sound.passes) all
 
 -- ---- a round
-less_round : LawsBelow → (w : ℕ) (r : Run) (o : Offer) → IsAtRest r.state → first_of (offers r.state) ≡ Some o → HasLess r.state (round (suc w) r)
+pub less_round : LawsBelow → (w : ℕ) (r : Run) (o : Offer) → IsAtRest r.state → first_of (offers r.state) ≡ Some o → HasLess r.state (round (suc w) r)
 unfolding round
 less_round known w r o rest e =
     let good : IsGood r.state o = first_is (IsGood r.state) (offers r.state) o (offers_good r.state) e in

@@ -8,5 +8,6 @@ mod below;
 mod plays;
 mod rests;
 
+pub use below::laws_below;
 pub use plays::{flights_are_legal, flights_are_runs};
 pub use rests::{flights_end_at_rest, lines_keep_rest, settles_end};

@@ -1,0 +1,5 @@
+pub mod Jobs
+pub mod Settles
+pub mod Steps
+pub mod Texts
+pub mod Wholes

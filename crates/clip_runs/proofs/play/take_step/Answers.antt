@@ -1,0 +1,23 @@
+use Rattle.std.proofs.Common.{◌≡◌, refl, sym, subst}
+use Rattle.std.specs.Prelude.{OnOk}
+use Rattle.clip_script.specs.declared.step.Step.{Step}
+use Rattle.clip_script.specs.declared.step.Step.TheVariants.{Book, EndSeen}
+use Rattle.clip_runs.specs.Desks.{Goes}
+use Rattle.clip_runs.specs.Stages.{HasTaken}
+use Rattle.clip_runs.specs.declared.play.Stage.{Stage}
+use Rattle.plan_model.specs.declared.events.Event.TheVariants.{End}
+use Rattle.clip_runs.proofs.Steps.{book_taken, done_both, done_then, seen_taken}
+use Rattle.clip_runs.proofs.play.take_step.Goals as goal
+
+pub returns-in-Book-clause-taken : goal.returns-in-Book-clause-taken
+returns-in-Book-clause-taken g c =
+    let next : Stage = record { desk = c.take_book.new.desk; view = c.args.stage.now.view } in
+    subst (λ (s : Step). OnOk c.take_book.result (HasTaken s c.args.stage.now next)) (sym c.in-Book.is)
+    (done_then c.take_book.result (Goes c.in-Book.pass c.in-Book.event c.args.stage.now.desk c.take_book.new.desk) (HasTaken (Book c.in-Book.pass c.in-Book.event) c.args.stage.now next)
+    (λ goes. book_taken c.steps_go_on.ensures c.in-Book.pass c.in-Book.event c.args.stage.now next goes refl) c.take_book.ensures.goes)
+
+pub returns-in-EndSeen-clause-taken : goal.returns-in-EndSeen-clause-taken
+returns-in-EndSeen-clause-taken g c =
+    subst (λ (s : Step). OnOk c.end_seen.result (HasTaken s c.args.stage.now c.end_seen.new.stage)) (sym c.in-EndSeen.is)
+    (done_both c.end_seen.result (Goes c.in-EndSeen.pass End c.args.stage.now.desk c.end_seen.new.stage.desk) (c.end_seen.new.stage.view ≡ c.args.stage.now.view) (HasTaken (EndSeen c.in-EndSeen.pass) c.args.stage.now c.end_seen.new.stage)
+    (λ goes view. seen_taken c.steps_go_on.ensures c.in-EndSeen.pass c.args.stage.now c.end_seen.new.stage goes view) c.end_seen.ensures.goes c.end_seen.ensures.view)

@@ -1,0 +1,216 @@
+//! A book whose jobs are filled as soon as they are claimed.
+
+ghost use Rattle.std.specs.Prelude.{◌≡◌, ◌<◌, ◌^◌, length, replicate, slice_index_or, slice_set, IfOk, Some, None};
+ghost use Rattle.plan_model.specs.Limits.{IsSize};
+ghost use Rattle.plan_model.specs.Steps.{job_answer};
+ghost use Rattle.plan_model.specs.declared.events.Event.TheVariants.{Claim, Finish};
+ghost use Rattle.clip_script.specs.Ranges.{IsAsked};
+ghost use Rattle.clip_book.specs.Answers.{said_of_begun, said_of_ended, said_of_given, said_of_published};
+ghost use Rattle.clip_book.specs.Books.{started};
+ghost use Rattle.clip_runs.specs.Desks.{Takes};
+
+use clip_book::{Begun, Book, Claimed, Ended, FilledJob, Given, Job, Published};
+use decode_workers::{Filler, filled_jobs_go_back};
+use plan_histories::{moves_leave_parts, others_keep_parts, publications_leave_parts};
+use plan_model::{Answer, Event, refusals_change_nothing};
+use std::alloc::{AllocError, Global};
+use std::marker::Model;
+use terrain_store::Shape;
+
+/// There was no memory.
+#[derive(Debug, Clone, Copy, PartialEq, Eq)]
+pub(crate) struct NoMemory;
+
+/// A book whose jobs are filled as soon as they are claimed, so that any of them can be given back. A contract sees the
+/// book.
+#[derive(Drop)]
+pub(crate) struct Desk {
+    book: Book,
+    // The filled job of each pass that has one.
+    jobs: Vec<Option<FilledJob>>,
+}
+
+impl Model for Desk {
+    ghost use Rattle.clip_book.specs.Books.{BookView};
+    ghost use Rattle.clip_runs.specs.Desks.{HasJobs};
+
+    ghost Value = { BookView };
+
+    ghost view = { λ s. s.book };
+
+    ghost invariant = { λ s. HasJobs s.book s.jobs.items };
+}
+
+// So many places without a job.
+#[tactic(auto, using(std::proofs::lemmas::List::replicate_more))]
+fn no_jobs(alloc: Global, count: u8) -> Result<Vec<Option<FilledJob>>, AllocError>
+    ensures { IfOk result (λ v. v.items ≡ replicate count None) }
+{
+    let mut jobs = Vec::with_capacity(alloc, count as usize)?;
+    'made: for _ in 0..count {
+        jobs.push(None)?;
+    }
+    Ok(jobs)
+}
+
+// Keeps the filled job of a pass.
+fn keep_job(jobs: &mut [Option<FilledJob>], pass: u8, job: FilledJob)
+    requires { pass < length jobs.old }
+    ensures { jobs.new ≡ slice_set jobs.old pass (Some job) }
+{
+    jobs[pass as usize] = Some(job);
+}
+
+// Takes the filled job of a pass.
+fn take_job(jobs: &mut [Option<FilledJob>], pass: u8) -> Option<FilledJob>
+    requires { pass < length jobs.old }
+    ensures job { result ≡ slice_index_or jobs.old pass None }
+    ensures rest { jobs.new ≡ slice_set jobs.old pass None }
+{
+    jobs[pass as usize].take()
+}
+
+// What a journal tells of a job.
+fn told_job(job: &Job) -> Answer
+    ensures { result ≡ job_answer job.now.note }
+{
+    Answer::Job {
+        level: job.level(),
+        bx: job.bx(),
+        by: job.by(),
+        cells: job.cells(),
+        plan: job.plan(),
+    }
+}
+
+// The plain answer of a job that is given back.
+fn told_given(given: Given) -> Answer
+    ensures { result ≡ said_of_given given }
+{
+    match given {
+        Given::Kept => Answer::Kept,
+        Given::Stale { plan, now } => Answer::Stale { plan, now },
+    }
+}
+
+// The plain answer of a publication.
+fn told_published(published: Published) -> Answer
+    ensures { result ≡ said_of_published published }
+{
+    match published {
+        Published::Grown(region) => Answer::Grown { region },
+        Published::Waiting { pieces } => Answer::Waiting { pieces },
+        Published::Whole => Answer::Whole,
+    }
+}
+
+// The plain answer of a frame's beginning.
+fn told_begun(begun: Begun) -> Answer
+    ensures { result ≡ said_of_begun begun }
+{
+    match begun {
+        Begun::Frame { number, .. } => Answer::Frame { number },
+        Begun::Held { level, tile, pass } => Answer::Held { level, tile, pass },
+        Begun::HasWork => Answer::HasWork,
+    }
+}
+
+// The plain answer of a frame's end.
+fn told_ended(ended: Ended) -> Answer
+    ensures { result ≡ said_of_ended ended }
+{
+    match ended {
+        Ended::Closed { number } => Answer::Closed { number },
+        Ended::NoFrame => Answer::NoFrame,
+    }
+}
+
+impl Desk {
+    /// The book of a terrain at the start, for K from 4 to 8. It fails where memory runs out.
+    pub(crate) fn start(alloc: Global, shape: Shape, k: u8) -> Result<Desk, NoMemory>
+        requires size { IsSize k }
+        ensures plan { IfOk result (λ desk. desk.plan ≡ started k shape) }
+        ensures land { IfOk result (λ desk. desk.land ≡ shape) }
+    {
+        let Ok(jobs) = no_jobs(alloc, 16) else {
+            return Err(NoMemory);
+        };
+        let Ok(book) = Book::start(alloc, shape, k) else {
+            return Err(NoMemory);
+        };
+        Ok(Desk { book, jobs })
+    }
+
+    /// The book.
+    pub(crate) fn book(&self) -> &Book
+        ensures { result.now ≡ self.now }
+    {
+        &self.book
+    }
+
+    // Pass `pass` claims a piece, which is filled at once.
+    fn claim<F: Filler>(&mut self, filler: &F, pass: u8) -> Answer
+        requires land { F.land filler.now ≡ self.old.land }
+        requires pass { pass < 16 }
+        ensures takes { Takes pass Claim result self.old self.new }
+    {
+        others_keep_parts();
+        refusals_change_nothing();
+        filled_jobs_go_back();
+        if self.book.has_job(pass) {
+            return Answer::HasWork;
+        }
+        match self.book.claim(pass) {
+            Claimed::Job(job) => {
+                let answer = told_job(&job);
+                keep_job(self.jobs.as_mut_slice(), pass, filler.fill(job));
+                answer
+            }
+            Claimed::Idle => Answer::Idle,
+            Claimed::Ripe { level } => Answer::Ripe { level },
+            Claimed::Busy { level, tile, frame } => Answer::Busy { level, tile, frame },
+            Claimed::Held { level, tile, pass } => Answer::Held { level, tile, pass },
+            Claimed::HasWork => Answer::HasWork,
+        }
+    }
+
+    // Pass `pass` gives its job back, if it has one.
+    fn finish(&mut self, pass: u8) -> Answer
+        requires pass { pass < 16 }
+        ensures takes { Takes pass Finish result self.old self.new }
+    {
+        others_keep_parts();
+        if !self.book.has_job(pass) {
+            return Answer::Idle;
+        }
+        match take_job(self.jobs.as_mut_slice(), pass) {
+            Some(job) => told_given(self.book.give_back(pass, job)),
+            None => unreachable!(),
+        }
+    }
+
+    /// Takes an event of a pass, and answers it. A job that is claimed is filled at once. There are at most 2^40 moves
+    /// and as many frames.
+    pub(crate) fn take<F: Filler>(&mut self, filler: &F, pass: u8, event: Event) -> Answer
+        requires land { F.land filler.now ≡ self.old.land }
+        requires asked { IsAsked (length self.old.plan.state.levels) pass event }
+        requires moves { self.old.plan.moves < 2 ^ 40 }
+        requires begun { self.old.plan.state.begun < 2 ^ 40 }
+        ensures takes { Takes pass event result self.old self.new }
+    {
+        others_keep_parts();
+        moves_leave_parts();
+        publications_leave_parts();
+        match event {
+            Event::Move { x, y, a } => {
+                self.book.move_to(x, y, a);
+                Answer::Moved
+            }
+            Event::Claim => self.claim(filler, pass),
+            Event::Finish => self.finish(pass),
+            Event::Publish { level } => told_published(self.book.publish(level)),
+            Event::Begin => told_begun(self.book.begin(pass)),
+            Event::End => told_ended(self.book.end(pass)),
+        }
+    }
+}

@@ -1,0 +1,305 @@
+//! The steps of a play script.
+
+ghost use Rattle.std.specs.Prelude.{◌≡◌, ◌<◌, ◌≤◌, ◌∷◌, [], ◌^◌, All, OnOk, length, vec_len, string_bytes};
+ghost use Rattle.outer_shelf.specs.Counts.{Rose};
+ghost use Rattle.plan_model.specs.States.{frame_of, pass_at};
+ghost use Rattle.plan_model.specs.Steps.{step};
+ghost use Rattle.plan_model.specs.declared.events.Event.TheVariants.{End};
+ghost use Rattle.clip_script.specs.Ranges.{AreSizes, IsAsked, IsStep};
+ghost use Rattle.clip_script.specs.Texts.{log_line};
+ghost use Rattle.run_actions.specs.Actions.{Put, Write};
+ghost use Rattle.run_actions.specs.Runs.{CallsWithin, HadReason, OnHalt, Ran, WriteEnds};
+ghost use Rattle.clip_runs.specs.Desks.{Goes};
+ghost use Rattle.clip_runs.specs.Frames.{frame_name};
+ghost use Rattle.clip_runs.specs.Lines.{view_line};
+ghost use Rattle.clip_runs.specs.Plays.{end_actions, end_seen_actions, event_actions, play_actions, step_actions, steps_actions};
+ghost use Rattle.clip_runs.specs.Stages.{HasTaken, is_end, scene_of};
+
+use crate::desk::Desk;
+use crate::drawn::{Drawn, draw_seen, draw_whole, frame_name, put_frame};
+use crate::lines::{event_line, unseen_line, view_line};
+use clip_script::{PlayScript, Step, View};
+use decode_workers::Filler;
+use outer_shelf::{Shelf, Sink};
+use plan_holds::steps_go_on;
+use plan_model::Event;
+use run_actions::{Halt, write};
+use std::alloc::Global;
+
+/// A play between two steps: its book, and the view.
+#[derive(Drop)]
+pub(crate) struct Stage {
+    pub(crate) desk: Desk,
+    pub(crate) view: View,
+}
+
+// Whether an event is the end of a frame.
+fn is_end(event: Event) -> bool
+    ensures { result ≡ is_end event }
+{
+    match event {
+        Event::Move { .. } | Event::Claim | Event::Finish | Event::Publish { .. } | Event::Begin =>
+            false,
+        Event::End => true,
+    }
+}
+
+// Puts a frame under its number, and then writes its line.
+fn put_numbered<S: Shelf, K: Sink>(
+    alloc: Global,
+    name: &str,
+    number: u64,
+    drawn: &Drawn,
+    shelf: &mut S,
+    out: &mut K,
+) -> Result<(), Halt>
+    ensures ran { Ran S.leaves 0
+        (Put (frame_name name.now number) drawn.now.text.items ∷ Write (string_bytes drawn.now.line) ∷ []) result
+        (S.told shelf.old) (S.told shelf.new) (K.told out.old) (K.told out.new) }
+    ensures reason { HadReason result (S.told shelf.old) (S.told shelf.new) (K.told out.old) (K.told out.new) }
+{
+    match frame_name(alloc, name, number) {
+        Ok(file) => put_frame(shelf, out, file.as_str(), drawn),
+        Err(_) => Err(Halt::NoMemory),
+    }
+}
+
+// Takes an event of a pass, and writes its line.
+fn take_event<F: Filler, K: Sink>(
+    alloc: Global,
+    filler: &F,
+    desk: &mut Desk,
+    pass: u8,
+    event: Event,
+    out: &mut K,
+) -> Result<(), Halt>
+    requires land { F.land filler.now ≡ desk.old.land }
+    requires asked { IsAsked (length desk.old.plan.state.levels) pass event }
+    requires moves { desk.old.plan.moves < 2 ^ 40 }
+    requires begun { desk.old.plan.state.begun < 2 ^ 40 }
+    ensures goes { Goes pass event desk.old desk.new }
+    ensures ends { WriteEnds (log_line pass event (step desk.old.plan.state pass event).answer) result
+        (K.told out.old).written (K.told out.new).written }
+    ensures calls { CallsWithin 1 (K.told out.old).calls (K.told out.new).calls }
+    ensures reason { OnHalt result ⊥ (Rose (K.told out.old).faults (K.told out.new).faults) }
+    ensures faults_stay { (K.told out.old).faults ≤ (K.told out.new).faults }
+{
+    let answer = desk.take(filler, pass, event);
+    match event_line(alloc, pass, event, answer) {
+        Ok(line) => write(out, line.as_slice()),
+        Err(_) => Err(Halt::NoMemory),
+    }
+}
+
+// Pass `pass` ends its frame, which is put, and the line of the end is written.
+fn end_frame<F: Filler, S: Shelf, K: Sink>(
+    alloc: Global,
+    filler: &F,
+    desk: &mut Desk,
+    pass: u8,
+    name: &str,
+    shelf: &mut S,
+    out: &mut K,
+) -> Result<(), Halt>
+    requires land { F.land filler.now ≡ desk.old.land }
+    requires asked { IsAsked (length desk.old.plan.state.levels) pass End }
+    requires moves { desk.old.plan.moves < 2 ^ 40 }
+    requires begun { desk.old.plan.state.begun < 2 ^ 40 }
+    ensures goes { OnOk result (Goes pass End desk.old desk.new) }
+    ensures ran { Ran S.leaves 0 (end_actions desk.old.land.terrain name.now desk.old.plan.state.k pass
+        (frame_of (pass_at desk.old.plan.state pass))) result
+        (S.told shelf.old) (S.told shelf.new) (K.told out.old) (K.told out.new) }
+    ensures reason { HadReason result (S.told shelf.old) (S.told shelf.new) (K.told out.old) (K.told out.new) }
+{
+    match desk.book().frame_of(pass) {
+        Some(note) => match draw_whole(alloc, desk.book(), pass, &note) {
+            Ok(drawn) => {
+                let _ = desk.take(filler, pass, Event::End);
+                put_numbered(alloc, name, note.number, &drawn, shelf, out)
+            }
+            Err(_) => Err(Halt::NoMemory),
+        },
+        None => take_event(alloc, filler, desk, pass, Event::End, out),
+    }
+}
+
+// Takes an event of a pass: a frame that ends is put. Then the line is written.
+fn take_book<F: Filler, S: Shelf, K: Sink>(
+    alloc: Global,
+    filler: &F,
+    desk: &mut Desk,
+    pass: u8,
+    event: Event,
+    name: &str,
+    shelf: &mut S,
+    out: &mut K,
+) -> Result<(), Halt>
+    requires land { F.land filler.now ≡ desk.old.land }
+    requires asked { IsAsked (length desk.old.plan.state.levels) pass event }
+    requires moves { desk.old.plan.moves < 2 ^ 40 }
+    requires begun { desk.old.plan.state.begun < 2 ^ 40 }
+    ensures goes { OnOk result (Goes pass event desk.old desk.new) }
+    ensures ran { Ran S.leaves 0
+        (event_actions desk.old.land.terrain name.now desk.old.plan.state pass event) result
+        (S.told shelf.old) (S.told shelf.new) (K.told out.old) (K.told out.new) }
+    ensures reason { HadReason result (S.told shelf.old) (S.told shelf.new) (K.told out.old) (K.told out.new) }
+{
+    if is_end(event) {
+        end_frame(alloc, filler, desk, pass, name, shelf, out)
+    } else {
+        take_event(alloc, filler, desk, pass, event, out)
+    }
+}
+
+// Pass `pass` ends its frame, of which the parts that the view keeps are put, and the line of the end is written.
+fn end_seen<F: Filler, S: Shelf, K: Sink>(
+    alloc: Global,
+    filler: &F,
+    stage: &mut Stage,
+    pass: u8,
+    name: &str,
+    shelf: &mut S,
+    out: &mut K,
+) -> Result<(), Halt>
+    requires land { F.land filler.now ≡ stage.old.desk.land }
+    requires asked { IsAsked (length stage.old.desk.plan.state.levels) pass End }
+    requires moves { stage.old.desk.plan.moves < 2 ^ 40 }
+    requires begun { stage.old.desk.plan.state.begun < 2 ^ 40 }
+    ensures goes { OnOk result (Goes pass End stage.old.desk stage.new.desk) }
+    ensures view { OnOk result (stage.new.view ≡ stage.old.view) }
+    ensures ran { Ran S.leaves 0 (end_seen_actions stage.old.desk.land.terrain name.now stage.old.desk.plan.state.k
+        stage.old.view pass (frame_of (pass_at stage.old.desk.plan.state pass))) result
+        (S.told shelf.old) (S.told shelf.new) (K.told out.old) (K.told out.new) }
+    ensures reason { HadReason result (S.told shelf.old) (S.told shelf.new) (K.told out.old) (K.told out.new) }
+{
+    match stage.desk.book().frame_of(pass) {
+        Some(note) => match draw_seen(alloc, stage.desk.book(), pass, &note, &stage.view) {
+            Ok(drawn) => {
+                let _ = stage.desk.take(filler, pass, Event::End);
+                put_numbered(alloc, name, note.number, &drawn, shelf, out)
+            }
+            Err(_) => Err(Halt::NoMemory),
+        },
+        None => {
+            let _ = stage.desk.take(filler, pass, Event::End);
+            match unseen_line(alloc, pass) {
+                Ok(line) => write(out, line.as_bytes()),
+                Err(_) => Err(Halt::NoMemory),
+            }
+        }
+    }
+}
+
+// Takes a view, and writes its line.
+fn see<K: Sink>(alloc: Global, view: &mut View, seen: &View, out: &mut K) -> Result<(), Halt>
+    ensures view { view.new ≡ seen.now }
+    ensures ends { WriteEnds (view_line seen.now) result (K.told out.old).written (K.told out.new).written }
+    ensures calls { CallsWithin 1 (K.told out.old).calls (K.told out.new).calls }
+    ensures reason { OnHalt result ⊥ (Rose (K.told out.old).faults (K.told out.new).faults) }
+    ensures faults_stay { (K.told out.old).faults ≤ (K.told out.new).faults }
+{
+    *view = *seen;
+    match view_line(alloc, seen) {
+        Ok(line) => write(out, line.as_bytes()),
+        Err(_) => Err(Halt::NoMemory),
+    }
+}
+
+// Takes a step: the event is done, then its file is put, then its line is written.
+fn take_step<F: Filler, S: Shelf, K: Sink>(
+    alloc: Global,
+    filler: &F,
+    stage: &mut Stage,
+    step: &Step,
+    name: &str,
+    shelf: &mut S,
+    out: &mut K,
+) -> Result<(), Halt>
+    requires land { F.land filler.now ≡ stage.old.desk.land }
+    requires step { IsStep (length stage.old.desk.plan.state.levels) step.now }
+    requires moves { stage.old.desk.plan.moves < 2 ^ 40 }
+    requires begun { stage.old.desk.plan.state.begun < 2 ^ 40 }
+    ensures taken { OnOk result (HasTaken step.now stage.old stage.new) }
+    ensures ran { Ran S.leaves 0 (step_actions stage.old.desk.land.terrain name.now (scene_of stage.old) step.now) result
+        (S.told shelf.old) (S.told shelf.new) (K.told out.old) (K.told out.new) }
+    ensures reason { HadReason result (S.told shelf.old) (S.told shelf.new) (K.told out.old) (K.told out.new) }
+{
+    steps_go_on();
+    match *step {
+        Step::Book { pass, event } => {
+            take_book(
+                alloc,
+                filler,
+                &mut stage.desk,
+                pass,
+                event,
+                name,
+                shelf,
+                out,
+            )
+        }
+        Step::See(view) => see(alloc, &mut stage.view, &view, out),
+        Step::EndSeen { pass } => end_seen(alloc, filler, stage, pass, name, shelf, out),
+    }
+}
+
+// Takes steps, one after another.
+fn take_steps<F: Filler, S: Shelf, K: Sink>(
+    alloc: Global,
+    filler: &F,
+    stage: &mut Stage,
+    steps: &[Step],
+    name: &str,
+    shelf: &mut S,
+    out: &mut K,
+) -> Result<(), Halt>
+    requires land { F.land filler.now ≡ stage.old.desk.land }
+    requires steps { All (IsStep (length stage.old.desk.plan.state.levels)) steps.now }
+    requires few { length steps.now ≤ 1048577 }
+    requires moves { stage.old.desk.plan.moves ≡ 0 }
+    requires begun { stage.old.desk.plan.state.begun ≡ 0 }
+    ensures ran { Ran S.leaves 0
+        (steps_actions stage.old.desk.land.terrain name.now (scene_of stage.old) steps.now) result
+        (S.told shelf.old) (S.told shelf.new) (K.told out.old) (K.told out.new) }
+    ensures reason { HadReason result (S.told shelf.old) (S.told shelf.new) (K.told out.old) (K.told out.new) }
+{
+    for step in steps {
+        match take_step(alloc, filler, stage, step, name, shelf, out) {
+            Ok(()) => {}
+            Err(halt) => return Err(halt),
+        }
+    }
+    Ok(())
+}
+
+/// Takes the steps of a play script, one after another.
+#[tactic(auto, unfolding(crate::specs::Plays::play_actions))]
+pub(crate) fn play<F: Filler, S: Shelf, K: Sink>(
+    alloc: Global,
+    filler: &F,
+    script: &PlayScript,
+    name: &str,
+    shelf: &mut S,
+    out: &mut K,
+) -> Result<(), Halt>
+    requires sizes { AreSizes script.now.k script.now.levels }
+    requires steps { All (IsStep script.now.levels) script.now.steps.items }
+    requires few { length script.now.steps.items ≤ 1048577 }
+    requires levels { script.now.levels ≡ (F.land filler.now).levels }
+    ensures ran { Ran S.leaves 0
+        (play_actions (F.land filler.now).terrain script.now.k script.now.levels script.now.steps.items name.now) result
+        (S.told shelf.old) (S.told shelf.new) (K.told out.old) (K.told out.new) }
+    ensures reason { HadReason result (S.told shelf.old) (S.told shelf.new) (K.told out.old) (K.told out.new) }
+{
+    match Desk::start(alloc, filler.shape(), script.k) {
+        Ok(desk) => {
+            let mut stage = Stage {
+                desk,
+                view: View::empty(),
+            };
+            let steps = script.steps.as_slice();
+            take_steps(alloc, filler, &mut stage, steps, name, shelf, out)
+        }
+        Err(_) => Err(Halt::NoMemory),
+    }
+}
