@@ -1,0 +1,4 @@
+pub mod Passes
+pub mod Calls
+pub mod Closing
+pub mod Reading

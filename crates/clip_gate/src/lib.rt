@@ -1,0 +1,20 @@
+//! The shared clip: callers on threads of their own share one book, each event at its own turn.
+#![tactic(auto)]
+
+mod cells;
+mod clip;
+mod events;
+mod faults;
+mod flags;
+mod pass;
+mod reading;
+mod told;
+#[cfg(test)]
+mod worked;
+
+pub use clip::Clip;
+pub use clip_book::NoMemory;
+pub use faults::{CloseFault, JournalFull, PassesOut};
+pub use gate_rule::Journal;
+pub use pass::Pass;
+pub use plan_model::Entry;

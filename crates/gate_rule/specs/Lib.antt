@@ -1,0 +1,4 @@
+pub mod Flags
+pub mod Rule
+pub mod Plays
+pub mod Steps
