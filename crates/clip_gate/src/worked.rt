@@ -104,7 +104,7 @@ fn passes_are_split_and_the_journal_is_full(rt: HostRuntime) -> Result<(), Fail>
 }
 
 #[test]
-fn a_frame_is_begun_and_a_pass_is_joined(rt: HostRuntime) -> Result<(), Fail> {
+fn a_pass_is_split_and_claims(rt: HostRuntime) -> Result<(), Fail> {
     let (clip, mut pass) = zero_clip(rt.alloc())?;
     let Ok(mut other) = clip.split(&mut pass) else {
         return Err("no pass".into());
