@@ -3,7 +3,7 @@ use Rattle.std.proofs.Common.{◌≡◌, ℕ, ◌+◌, ◌*◌, ◌/◌, ◌%◌
 use Rattle.std.specs.Int.{int_gap}
 use Rattle.std.proofs.lemmas.Int.{ints}
 use Rattle.std.proofs.lemmas.Bool.{cases_eq}
-use Rattle.std.proofs.Math.Nat.{mod-lt, mul-div-le, lt_of_mul-lt-mul_left}
+use Rattle.std.proofs.lemmas.Nat.{div-mul-add, mod-mul-add}
 use Rattle.clip_regions.specs.declared.region.Region.{Region}
 use mathlib.Core.Path.{ap₂}
 use Rattle.clip_regions.specs.Regions.{columns, rows, area, cells}
@@ -16,6 +16,7 @@ use Rattle.terrain_store.specs.Shapes.{Land}
 use Rattle.torus_grid.proofs.Written.{IsShort, short_from}
 use Rattle.clip_book.specs.Jobs.{IsJob, heights_of}
 use Rattle.clip_book.specs.Laws.{StandByPlaces, ReadByPlaces}
+use Rattle.grid_fills.specs.Filling.{IsFilledTo}
 
 -- ---- the sides of a job's cells
 pub short_of : InsideIsHeld → (land : Land) (note : JobNote) (patch : Patch) (r : Region) → IsJob land note patch → r ≡ note.piece.cells → IsShort r
@@ -25,25 +26,11 @@ short_of law land note patch r job e =
 pub side_is : (a b : ℤ) (n : ℕ) → n ≡ int_gap a (b +ℤ pos 1) → a ≤ℤ b → pos n ≡ b +ℤ pos 1 -ℤ a
 side_is a b n e order = ap pos e ∙ gap_is a (b +ℤ pos 1) (omega (arith, ints))
 
--- ---- a place among the cells
-pub across_less : (k w : ℕ) → 0 < w → k % w < w
-across_less k w some = mod-lt k some
-
-pub down_less : (k w h : ℕ) → k < w * h → k / w < h
-down_less k w h l =
-    let part : w * (k / w) ≤ k = mul-div-le k w in
-    let less : w * (k / w) < w * h = omega arith in
-    lt_of_mul-lt-mul_left w less
-
 -- ---- the heights so far
-pub record FilledTo (height : ℤ → ℤ → ℤ) (r : Region) (across k : ℕ) (out : List ℤ) : Type 0 where
-  pub many : length out ≡ 64
-  pub heights : (m : ℕ) → m < k → get_or out m (pos 0) ≡ height (r.x0 +ℤ pos (m % across)) (r.y0 +ℤ pos (m / across))
-
-pub filled_none : (height : ℤ → ℤ → ℤ) (r : Region) (across : ℕ) (out : List ℤ) → length out ≡ 64 → FilledTo height r across 0 out
+pub filled_none : (height : ℤ → ℤ → ℤ) (r : Region) (across : ℕ) (out : List ℤ) → length out ≡ 64 → IsFilledTo height r across 0 out
 filled_none height r across out e = record { many = e; heights = λ m l. absurd (omega arith) }
 
-pub filled_more : (height : ℤ → ℤ → ℤ) (r : Region) (across k : ℕ) (out : List ℤ) (v : ℤ) → FilledTo height r across k out → k < 64 → v ≡ height (r.x0 +ℤ pos (k % across)) (r.y0 +ℤ pos (k / across)) → FilledTo height r across (k + 1) (set out k v)
+filled_more : (height : ℤ → ℤ → ℤ) (r : Region) (across k : ℕ) (out : List ℤ) (v : ℤ) → IsFilledTo height r across k out → k < 64 → v ≡ height (r.x0 +ℤ pos (k % across)) (r.y0 +ℤ pos (k / across)) → IsFilledTo height r across (k + 1) (set out k v)
 filled_more height r across k out v so_far below e = record {
   many = length-set out k v ∙ so_far.many;
   heights = λ m l.
@@ -53,6 +40,17 @@ filled_more height r across k out v so_far below e = record {
         | inr other ↦ get_or-set_other out k m v (pos 0) other ∙ so_far.heights m (omega arith)
       ];
 }
+
+-- so many, said otherwise
+pub filled_as : (height : ℤ → ℤ → ℤ) (r : Region) (across k m : ℕ) (out : List ℤ) → k ≡ m → IsFilledTo height r across k out → IsFilledTo height r across m out
+filled_as height r across k m out e = subst (λ (n : ℕ). IsFilledTo height r across n out) e
+
+-- one more cell of a row
+pub row_more : (height : ℤ → ℤ → ℤ) (r : Region) (across row n : ℕ) (out : List ℤ) (v : ℤ) → n < across → row * across + n < 64 → v ≡ height (r.x0 +ℤ pos n) (r.y0 +ℤ pos row) → IsFilledTo height r across (row * across + n) out → IsFilledTo height r across (row * across + (n + 1)) (set out (row * across + n) v)
+row_more height r across row n out v l below e so_far =
+    let place : v ≡ height (r.x0 +ℤ pos ((row * across + n) % across)) (r.y0 +ℤ pos ((row * across + n) / across)) =
+    e ∙ sym (ap₂ (λ (a b : ℕ). height (r.x0 +ℤ pos a) (r.y0 +ℤ pos b)) (mod-mul-add row across n l) (div-mul-add row across n l)) in
+    filled_as height r across _ _ _ (omega arith) (filled_more height r across (row * across + n) out v so_far below place)
 
 get_take : (xs : List ℤ) (n m : ℕ) → m < n → get_or (take n xs) m (pos 0) ≡ get_or xs m (pos 0)
 get_take [] zero m l = refl
@@ -66,7 +64,7 @@ length_take xs zero l = refl
 length_take [] (suc n) l = absurd (omega arith)
 length_take (x ∷ xs) (suc n) l = ap suc (length_take xs n (omega arith))
 
-pub filled_whole : (height : ℤ → ℤ → ℤ) (r : Region) (across n k : ℕ) (out : List ℤ) → FilledTo height r across k out → k ≡ n → n ≤ 64 → across ≡ columns r → StandByPlaces height r (take n out)
+pub filled_whole : (height : ℤ → ℤ → ℤ) (r : Region) (across n k : ℕ) (out : List ℤ) → IsFilledTo height r across k out → k ≡ n → n ≤ 64 → across ≡ columns r → StandByPlaces height r (take n out)
 filled_whole height r across n k out so_far last few e m l =
     let there : n ≤ length out = subst (λ (s : ℕ). n ≤ s) (sym so_far.many) few in
     let less : m < n = subst (λ (s : ℕ). m < s) (length_take out n there) l in

@@ -1,12 +1,13 @@
 //! How a job is filled.
 
-ghost use Rattle.std.specs.Prelude.{◌≡◌, ◌+◌, ◌*◌, ◌/◌, ◌%◌, ◌<◌, ◌≤◌, pos, ◌+ℤ◌, ◌-ℤ◌, ◌≤ℤ◌, length, take};
+ghost use Rattle.std.specs.Prelude.{◌≡◌, ◌+◌, ◌*◌, ◌<◌, ◌≤◌, pos, ◌+ℤ◌, ◌-ℤ◌, ◌≤ℤ◌, length, take};
 ghost use Rattle.std.specs.Int.{int_gap};
 ghost use Rattle.clip_regions.specs.Regions.{columns, rows};
 ghost use Rattle.terrain_model.specs.Terrain.{level_height};
 ghost use Rattle.torus_grid.specs.Places.{IsInOneBlock};
 ghost use Rattle.book_cells.specs.Cells.{IsPainted};
 ghost use Rattle.clip_book.specs.Laws.{StandByPlaces};
+ghost use Rattle.grid_fills.specs.Filling.{IsFilledTo};
 
 use crate::levels::height_of;
 use clip_book::{FilledJob, Job, read_by_places_are_listed};
@@ -54,20 +55,34 @@ impl BlockCells {
         }
     }
 
-    // The column of the cell at a place among the cells, row by row.
-    fn column(self, k: u32) -> i32
-        requires { k < self.across * self.down }
-        ensures { result ≡ self.cells.x0 +ℤ pos (k % self.across) }
+    // The column of a cell of each row.
+    fn column(self, n: u32) -> i32
+        requires { n < self.across }
+        ensures { result ≡ self.cells.x0 +ℤ pos n }
     {
-        self.cells.x0 + (k % self.across) as i32
+        self.cells.x0 + n as i32
     }
 
-    // Its row.
-    fn row(self, k: u32) -> i32
-        requires { k < self.across * self.down }
-        ensures { result ≡ self.cells.y0 +ℤ pos (k / self.across) }
+    // A row of cells.
+    fn row(self, n: u32) -> i32
+        requires { n < self.down }
+        ensures { result ≡ self.cells.y0 +ℤ pos n }
     {
-        self.cells.y0 + (k / self.across) as i32
+        self.cells.y0 + n as i32
+    }
+}
+
+// Writes the heights of a row of cells on a level, after those of the rows before it.
+fn write_row(grid: &Grid, level: u8, cells: BlockCells, row: u32, out: &mut [i16; 64])
+    requires level { level ≤ 11 }
+    requires row { row < cells.down }
+    requires filled { IsFilledTo (level_height grid.now level) cells.cells cells.across (row * cells.across) out.old }
+    ensures { IsFilledTo (level_height grid.now level) cells.cells cells.across ((row + 1) * cells.across) out.new }
+{
+    let j = cells.row(row);
+    let first = row * cells.across;
+    for n in 0..cells.across {
+        out[(first + n) as usize] = height_of(grid, level, cells.column(n), j);
     }
 }
 
@@ -78,8 +93,8 @@ fn heights_on(grid: &Grid, level: u8, cells: BlockCells) -> [i16; 64]
     ensures heights { StandByPlaces (level_height grid.now level) cells.cells (take (cells.across * cells.down) result) }
 {
     let mut out = [0i16; 64];
-    for k in 0..cells.across * cells.down {
-        out[k as usize] = height_of(grid, level, cells.column(k), cells.row(k));
+    for row in 0..cells.down {
+        write_row(grid, level, cells, row, &mut out);
     }
     out
 }
