@@ -50,19 +50,61 @@ fn moved(seed: u64) -> Event {
     }
 }
 
-// An event of a seed.
-fn event(seed: u64, levels: u8) -> Event
+// A move of a seed, by a few cells about the corner.
+fn moved_a_little(seed: u64) -> Event {
+    Event::Move {
+        x: below(seed, 9) as i32 - 4,
+        y: below(next(next(seed)), 9) as i32 - 4,
+        a: 0,
+    }
+}
+
+// An event of a seed that is no move.
+fn work(seed: u64, levels: u8) -> Event
     requires { IsLevelCount levels }
 {
     match below(seed, 100) {
-        0 => moved(next(seed)),
-        1 => Event::Begin,
+        0..2 => Event::Begin,
         2..6 => Event::End,
         6..50 => Event::Claim,
         50..94 => Event::Finish,
         _ => Event::Publish {
             level: below(next(seed), u32::from(levels)) as u8,
         },
+    }
+}
+
+// An event of a seed.
+fn event(seed: u64, levels: u8) -> Event
+    requires { IsLevelCount levels }
+{
+    if below(seed, 100) == 0 {
+        return moved(next(seed));
+    }
+    work(seed, levels)
+}
+
+// An event of a seed: a move seldom, and mostly by a few cells.
+fn calm_event(seed: u64, levels: u8) -> Event
+    requires { IsLevelCount levels }
+{
+    match below(next(next(seed)), 1000) {
+        0..3 => moved_a_little(next(seed)),
+        3 => moved(next(seed)),
+        _ => work(seed, levels),
+    }
+}
+
+// The event of a place in rounds in which each pass claims and fills four times, and each level is published.
+fn round_event(n: u32, levels: u8) -> Event
+    requires { IsLevelCount levels }
+{
+    match n / 16 % 9 {
+        8 => Event::Publish {
+            level: (n % 16 % u32::from(levels)) as u8,
+        },
+        turn if turn % 2 == 0 => Event::Claim,
+        _ => Event::Finish,
     }
 }
 
@@ -78,6 +120,34 @@ fn events(alloc: Global, levels: u8, seed: u64, count: u32) -> Result<Vec<PlainA
         out.push(PlainAsked {
             pass,
             event: event(seed, levels),
+        })?;
+    }
+    Ok(out)
+}
+
+// So many events in rounds, and as many calm ones of a seed.
+fn calm_events(
+    alloc: Global,
+    levels: u8,
+    seed: u64,
+    count: u32,
+) -> Result<Vec<PlainAsked>, AllocError>
+    requires { IsLevelCount levels }
+{
+    let mut out = Vec::new(alloc);
+    'rounds: for n in 0..count {
+        out.push(PlainAsked {
+            pass: (n % 16) as u8,
+            event: round_event(n, levels),
+        })?;
+    }
+    let mut seed = seed;
+    'made: for _ in 0..count {
+        seed = next(seed);
+        let pass = below(next(seed), 16) as u8;
+        out.push(PlainAsked {
+            pass,
+            event: calm_event(seed, levels),
         })?;
     }
     Ok(out)
@@ -119,7 +189,26 @@ fn follow(rt: &impl Abort, book: &mut Keeper, history: &[Entry]) {
     }
 }
 
-// Takes so many events, and compares each answer with the plain program's.
+// Takes some events, and compares each answer with the plain program's.
+fn play(
+    rt: &impl Abort,
+    alloc: Global,
+    k: u8,
+    levels: u8,
+    events: &[PlainAsked],
+) -> Result<(), Fail>
+    requires k { IsSize k }
+    requires levels { IsLevelCount levels }
+{
+    assert!(rt; events.len() < 1000000 && are_asked(levels, events));
+    let state = PlainState::start(alloc, k, levels)?;
+    let left = run(alloc, state, events)?;
+    let mut book = Keeper::start(alloc, terrain(rt, alloc)?, k, levels)?;
+    follow(rt, &mut book, left.history());
+    Ok(())
+}
+
+// Plays so many events of a seed.
 fn compare(
     rt: &impl Abort,
     alloc: Global,
@@ -132,12 +221,16 @@ fn compare(
     requires levels { IsLevelCount levels }
 {
     let events = events(alloc, levels, seed, count)?;
-    assert!(rt; events.len() < 1000000 && are_asked(levels, events.as_slice()));
-    let state = PlainState::start(alloc, k, levels)?;
-    let left = run(alloc, state, events.as_slice())?;
-    let mut book = Keeper::start(alloc, terrain(rt, alloc)?, k, levels)?;
-    follow(rt, &mut book, left.history());
-    Ok(())
+    play(rt, alloc, k, levels, events.as_slice())
+}
+
+// Plays 5,000 events in rounds, which fill great windows, and 5,000 calm ones of a seed.
+fn compare_great(rt: &impl Abort, alloc: Global, k: u8, levels: u8, seed: u64) -> Result<(), Fail>
+    requires k { IsSize k }
+    requires levels { IsLevelCount levels }
+{
+    let events = calm_events(alloc, levels, seed, 5000)?;
+    play(rt, alloc, k, levels, events.as_slice())
 }
 
 #[test]
@@ -160,6 +253,21 @@ fn twelve_levels(rt: HostRuntime) -> Result<(), Fail> {
 
 #[test]
 fn great_windows(rt: HostRuntime) -> Result<(), Fail> {
-    compare(&rt, rt.alloc(), 7, 2, 7, 1000)?;
-    compare(&rt, rt.alloc(), 8, 3, 8, 500)
+    compare(&rt, rt.alloc(), 7, 2, 7, 10000)?;
+    compare_great(&rt, rt.alloc(), 7, 3, 9)
+}
+
+#[test]
+fn the_greatest_window(rt: HostRuntime) -> Result<(), Fail> {
+    compare_great(&rt, rt.alloc(), 8, 1, 10)
+}
+
+#[test]
+fn the_greatest_windows(rt: HostRuntime) -> Result<(), Fail> {
+    compare_great(&rt, rt.alloc(), 8, 2, 8)
+}
+
+#[test]
+fn greatest_windows_that_move_often(rt: HostRuntime) -> Result<(), Fail> {
+    compare(&rt, rt.alloc(), 8, 3, 8, 10000)
 }
