@@ -125,24 +125,24 @@ fn events(alloc: Global, levels: u8, seed: u64, count: u32) -> Result<Vec<PlainA
     Ok(out)
 }
 
-// So many events in rounds, and as many calm ones of a seed.
+// 10,000 events: so many in rounds, and then calm ones of a seed.
 fn calm_events(
     alloc: Global,
     levels: u8,
     seed: u64,
-    count: u32,
+    rounds: u32,
 ) -> Result<Vec<PlainAsked>, AllocError>
     requires { IsLevelCount levels }
 {
     let mut out = Vec::new(alloc);
-    'rounds: for n in 0..count {
+    'rounds: for n in 0..rounds {
         out.push(PlainAsked {
             pass: (n % 16) as u8,
             event: round_event(n, levels),
         })?;
     }
     let mut seed = seed;
-    'made: for _ in 0..count {
+    'made: for _ in rounds..10000 {
         seed = next(seed);
         let pass = below(next(seed), 16) as u8;
         out.push(PlainAsked {
@@ -224,12 +224,19 @@ fn compare(
     play(rt, alloc, k, levels, events.as_slice())
 }
 
-// Plays 5,000 events in rounds, which fill great windows, and 5,000 calm ones of a seed.
-fn compare_great(rt: &impl Abort, alloc: Global, k: u8, levels: u8, seed: u64) -> Result<(), Fail>
+// Plays 10,000 events: so many in rounds, which fill great windows, and then calm ones of a seed.
+fn compare_great(
+    rt: &impl Abort,
+    alloc: Global,
+    k: u8,
+    levels: u8,
+    seed: u64,
+    rounds: u32,
+) -> Result<(), Fail>
     requires k { IsSize k }
     requires levels { IsLevelCount levels }
 {
-    let events = calm_events(alloc, levels, seed, 5000)?;
+    let events = calm_events(alloc, levels, seed, rounds)?;
     play(rt, alloc, k, levels, events.as_slice())
 }
 
@@ -254,20 +261,15 @@ fn twelve_levels(rt: HostRuntime) -> Result<(), Fail> {
 #[test]
 fn great_windows(rt: HostRuntime) -> Result<(), Fail> {
     compare(&rt, rt.alloc(), 7, 2, 7, 10000)?;
-    compare_great(&rt, rt.alloc(), 7, 3, 9)
-}
-
-#[test]
-fn the_greatest_window(rt: HostRuntime) -> Result<(), Fail> {
-    compare_great(&rt, rt.alloc(), 8, 1, 10)
+    compare_great(&rt, rt.alloc(), 7, 3, 9, 5000)
 }
 
 #[test]
 fn the_greatest_windows(rt: HostRuntime) -> Result<(), Fail> {
-    compare_great(&rt, rt.alloc(), 8, 2, 8)
+    compare_great(&rt, rt.alloc(), 8, 2, 8, 2700)
 }
 
 #[test]
-fn greatest_windows_that_move_often(rt: HostRuntime) -> Result<(), Fail> {
-    compare(&rt, rt.alloc(), 8, 3, 8, 10000)
+fn the_greatest_windows_that_move_often(rt: HostRuntime) -> Result<(), Fail> {
+    compare(&rt, rt.alloc(), 8, 2, 8, 10000)
 }
