@@ -1,3 +1,5 @@
+ghost use Rattle.std.specs.Prelude.{◌≡◌, pos, negsuc};
+
 use crate::{
     Heights, Patch, bring, code_by, patch_around, predict, predict_block, residual, restore,
     value_by,
@@ -91,6 +93,20 @@ fn heights_by_steps(rt: HostRuntime) {
     );
 }
 
+// Whether each cell of block (1, -1) is predicted alike with its block and alone.
+fn is_predicted_alike(patch: &Patch) -> bool
+    requires column { patch.now.i0 ≡ pos 3 }
+    requires row { patch.now.j0 ≡ negsuc 4 }
+{
+    let block = predict_block(patch);
+    let mut alike = true;
+    for n in 0..64u8 {
+        let (i, j) = (i32::from(n % 8) + 8, i32::from(n / 8) - 8);
+        alike = alike && block.predict(i, j) == predict(patch, i, j);
+    }
+    alike
+}
+
 #[test]
 fn a_block_is_predicted_as_its_cells(rt: HostRuntime) {
     let h = [
@@ -103,11 +119,8 @@ fn a_block_is_predicted_as_its_cells(rt: HostRuntime) {
         [20, 89, -98, 62, 80, -34, 825],
     ];
     let patch = Patch { i0: 3, j0: -5, h };
+    assert!(rt; is_predicted_alike(&patch));
     let block = predict_block(&patch);
-    for n in 0..64 {
-        let (i, j) = (8 + n % 8, n / 8 - 8);
-        assert_eq!(rt; block.predict(i, j), predict(&patch, i, j));
-    }
     assert_eq!(rt;
         block.code_by(9, -7, 1000, 3),
         code_by(&patch, 9, -7, 1000, 3)
