@@ -1,0 +1,1 @@
+//! Rounds beside their tasks one after another.
