@@ -1,5 +1,5 @@
 -- Tasks and results of parts, and of all parts one behind the other.
-use Rattle.std.proofs.Common.{◌≡◌, ℕ, zero, suc, ◌+◌, ◌<◌, List, [], ◌∷◌, ◌++◌, length, slice_index_or, flat_map, All, IfOk, IsOk, Vec, arith, refl, sym, ap, subst, true, false, true≢false}
+use Rattle.std.proofs.Common.{◌≡◌, ℕ, zero, suc, ◌<◌, List, [], ◌∷◌, ◌++◌, length, slice_index_or, flat_map, All, IfOk, IsOk, Vec, arith, sym, subst, true≢false}
 use Rattle.std.specs.Prelude.{Result, Ok, Err}
 use Rattle.std.specs.List.{AllZip, AllByRecursion}
 use Rattle.std.specs.Global.{Global}

@@ -1,5 +1,5 @@
 -- Parts of a round, and their results.
-use Rattle.std.specs.Prelude.{◌≡◌, List, [], ◌++◌, flat_map, All, Vec, Result, Ok, Err, IsOk}
+use Rattle.std.specs.Prelude.{◌≡◌, List, [], flat_map, All, Vec, Result, Ok, Err, IsOk}
 use Rattle.std.specs.Global.{Global}
 use Rattle.obj_frames.specs.declared.memory.NoMemory.{NoMemory}
 use Rattle.decode_rounds.specs.declared.tasks.Task.{Task}

@@ -41,10 +41,7 @@ fn in_turn<F: Filler, P: Post>(
 }
 
 // The results of all parts, one part behind the other.
-fn joined(
-    alloc: Global,
-    parts: Vec<Result<Vec<Done>, NoMemory>>,
-) -> Result<Vec<Done>, NoMemory>
+fn joined(alloc: Global, parts: Vec<Result<Vec<Done>, NoMemory>>) -> Result<Vec<Done>, NoMemory>
     ensures { IfOk result (λ all. JoinsAll parts.items all.items) }
 {
     let mut all = Vec::new(alloc);

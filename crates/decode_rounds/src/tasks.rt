@@ -28,7 +28,12 @@ pub enum Done {
 }
 
 // Does a task, without telling of it.
-fn result_of<F: Filler>(alloc: Global, book: &Book, filler: &F, task: Task) -> Result<Done, NoMemory>
+fn result_of<F: Filler>(
+    alloc: Global,
+    book: &Book,
+    filler: &F,
+    task: Task,
+) -> Result<Done, NoMemory>
     requires names { F.land filler.now ≡ book.now.land }
     requires task { IsTaskOf book.now task }
     ensures result { IfOk result (IsDoneOf book.now task) }

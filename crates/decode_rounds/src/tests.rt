@@ -1,1 +1,5 @@
-//! Rounds beside their tasks one after another.
+//! Rounds of a flight, by any number of passes, and a draw and a fill that meet.
+
+mod desk;
+mod flights;
+mod meeting;

@@ -12,4 +12,4 @@ loop-task-preserved g c =
     let before = c.loop-task.yielded in
     let task = c.in-Some.task in
     let done = c.in_ok-done.done in
-    subst (λ (all : List Done). AllZip R (before ++ task ∷ []) all) (sym c.in-Ok.ensures.items) (zipped_append R before (task ∷ []) c.loop-task.all.items (done ∷ []) c.loop-task.invariant (c.in_ok-done.ensures.result, tt))
+    subst (λ (all : List Done). AllZip R (before ++ task ∷ []) all) (sym {A = List Done} c.in-Ok.ensures.items) (zipped_append R before (task ∷ []) c.loop-task.all.items (done ∷ []) c.loop-task.invariant (c.in_ok-done.ensures.result, tt))

@@ -7,7 +7,7 @@ use Rattle.decode_rounds.specs.declared.tasks.Task.{Task}
 use Rattle.decode_rounds.specs.declared.tasks.Done.{Done}
 use Rattle.decode_rounds.specs.declared.parts.Part.{Part}
 use Rattle.decode_rounds.specs.Rounds.{IsTaskOf, IsDoneOf}
-use Rattle.decode_rounds.specs.Parts.{tasks_in, done_in}
+use Rattle.decode_rounds.specs.Parts.{tasks_in}
 use Rattle.decode_rounds.proofs.Zipped.{zipped, in_part, Works, all_work}
 use Rattle.decode_rounds.proofs.rounds.round.Goals as goal
 
@@ -24,8 +24,10 @@ returns g c =
     let parts = c.in_ok-parts.parts.items in
     let rs = c.in_ok-done.done.items in
     let works = zipped (Works R) parts rs (search rules) (λ i d e low.
-        let one = (c.in_ok-done.ensures.each i e low).1 in
-        subst (λ (part : Part). Works R part (slice_index_or rs i e)) (sym (one.job_is d)) one.call.met) in
-    record { results = IfOk-weaker c.joined.result _ _ (λ all joins.
-        subst (λ (tasks : List Task). AllZip R tasks all.items) c.in_ok-parts.ensures
-            (subst (λ (items : List Done). AllZip R (flat_map tasks_in parts) items) (sym joins.1) (all_work R parts rs works (recursion_from_All IsOk rs joins.0)))) c.joined.ensures }
+    let one = (c.in_ok-done.ensures.each i e low).1 in
+    subst (λ (part : Part). Works R part (slice_index_or rs i e)) (sym (one.job_is d)) one.call.met) in
+    record {
+      results = IfOk-weaker c.joined.result _ _ (λ all joins.
+          subst (λ (tasks : List Task). AllZip R tasks all.items) c.in_ok-parts.ensures
+          (subst (λ (items : List Done). AllZip R (flat_map tasks_in parts) items) (sym joins.1) (all_work R parts rs works (recursion_from_All IsOk rs joins.0)))) c.joined.ensures;
+    }
