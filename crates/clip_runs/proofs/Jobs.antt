@@ -1,19 +1,17 @@
 -- The filled jobs of a book's passes after each kind of event.
 use Rattle.std.proofs.Common.{◌≡◌, ℕ, zero, suc, ◌<◌, replicate, true, false, ℤ, List, length, length-set, get_or, set, Option, Some, None, is_some, refl, ap, sym, ◌∙◌, subst, inl, inr, arith}
-use Rattle.std.proofs.lemmas.Bool.{cases_eq, cond_both, cond-true, true≢false}
+use Rattle.std.proofs.lemmas.Bool.{cases_eq, cond_both, true≢false}
 use Rattle.std.proofs.lemmas.List.{get_or-set_same, get_or-set_other}
 use Rattle.std.specs.Prelude.{IsSomeAnd}
 use Rattle.plan_model.specs.States.{State, Pass, OpenFrame, start_state, pass_at, job_of, frame_of, has_work}
-use Rattle.plan_model.specs.Strips.{first_of}
-use Rattle.plan_model.specs.Claims.{offers}
-use Rattle.plan_model.specs.Steps.{Step, LevelTile, claimed, claim_step, unchanged, step, given_back, finish_step, next_frame, frame_begun, begin_step, ended, end_step}
+use Rattle.plan_model.specs.Steps.{Step, LevelTile, unchanged, step, given_back, finish_step, next_frame, frame_begun, begin_step, ended, end_step}
 use Rattle.plan_model.specs.Laws.{RefusalsChangeNothing, is_refusal}
 use Rattle.plan_model.specs.declared.events.JobNote.{JobNote}
 use Rattle.plan_model.specs.declared.events.Event.{Event}
 use Rattle.plan_model.specs.declared.events.Event.TheVariants.{Claim, Finish, Begin, End}
 use Rattle.plan_model.specs.declared.events.Answer.{Answer}
 use Rattle.plan_model.specs.declared.events.Answer.TheVariants.{Idle, HasWork}
-use Rattle.plan_model.specs.declared.events.Work.TheVariants.{Free, Fills, Draws}
+use Rattle.plan_model.specs.declared.events.Work.TheVariants.{Free, Draws}
 use Rattle.plan_flights.proofs.Parts.{none_of, there_with_job, finish_free}
 use Rattle.plan_histories.specs.Parts.{OthersKeepParts}
 use Rattle.book_plan.specs.Books.{PlanView}
@@ -94,13 +92,12 @@ others_stay keep p event answer old new does q apart = record {
   handed = does.others q apart;
 }
 
--- a claim that is refused, of a pass without a job
-pub refused_claim : OthersKeepParts → RefusalsChangeNothing → (p : ℕ) (answer : Answer) (old new : BookView) (jobs : List (Option FilledView)) → is_refusal answer ≡ true →
-    Does p Claim answer old new → is_some (job_of (pass_at old.plan.state p)) ≡ false → HasJobs old jobs → HasJobs new jobs
-refused_claim keep refusals p answer old new jobs refusal does none h =
+-- a claim that is refused
+pub refused_claim : RefusalsChangeNothing → (p : ℕ) (answer : Answer) (old new : BookView) (jobs : List (Option FilledView)) → is_refusal answer ≡ true →
+    Does p Claim answer old new → new.handed ≡ old.handed → HasJobs old jobs → HasJobs new jobs
+refused_claim refusals p answer old new jobs refusal does handed h =
     let same : new.plan.state ≡ old.plan.state = does.plan.state ∙ refusals old.plan.state p Claim (ap is_refusal does.plan.answered ∙ refusal) in
-    jobs_but old new does.land jobs jobs p h h.many (others_stay keep p Claim answer old new does) (λ q apart. refl)
-    (λ small has. absurd (true≢false (sym has ∙ ap (λ (st : State). is_some (job_of (pass_at st p))) same ∙ none)))
+    jobs_all old new does.land jobs h (ap (λ (st : State). st.passes) same) handed
 
 -- a claim that gave a job, filled
 pub given_claim : OthersKeepParts → (p : ℕ) (answer : Answer) (old new : BookView) (jobs : List (Option FilledView)) (filled : FilledView) → p < 16 →
@@ -159,17 +156,6 @@ pub no_finish : (p : ℕ) (v : BookView) → is_some (job_of (pass_at v.plan.sta
 unfolding finish_step
 no_finish p v none =
     let is : given_back v.plan.state p (job_of (pass_at v.plan.state p)) ≡ unchanged v.plan.state Idle = idle_step v.plan.state p (job_of (pass_at v.plan.state p)) (none_of (job_of (pass_at v.plan.state p)) none) in
-    record { plan = record { state = ap (λ (s : Step). s.state) (sym is); answered = ap (λ (s : Step). s.answer) is; moves = omega arith }; land = refl }
-
-has_work_if : (pass : Pass) → is_some (job_of pass) ≡ true → has_work pass ≡ true
-has_work_if Free e = absurd (true≢false (sym e))
-has_work_if (Fills job) e = refl
-has_work_if (Draws frame) e = absurd (true≢false (sym e))
-
-pub busy_claim : (p : ℕ) (v : BookView) → is_some (job_of (pass_at v.plan.state p)) ≡ true → Takes p Claim HasWork v v
-unfolding claim_step
-busy_claim p v some =
-    let is : claim_step v.plan.state p ≡ unchanged v.plan.state HasWork = cond-true (has_work (pass_at v.plan.state p)) (unchanged v.plan.state HasWork) (claimed v.plan.state p (first_of (offers v.plan.state))) (has_work_if (pass_at v.plan.state p) some) in
     record { plan = record { state = ap (λ (s : Step). s.state) (sym is); answered = ap (λ (s : Step). s.answer) is; moves = omega arith }; land = refl }
 
 -- ---- the start

@@ -108,10 +108,6 @@ seen_taken go_on p old new goes view = record {
 }
 
 -- what follows where a run was done
-pub done_then : {A B : Type 0} (r : Result A B) (P Q : Type 0) → (P → Q) → OnOk r P → OnOk r Q
-done_then (Ok x) P Q f h = f h
-done_then (Err e) P Q f h = h
-
 pub done_both : {A B : Type 0} (r : Result A B) (P Q R : Type 0) → (P → Q → R) → OnOk r P → OnOk r Q → OnOk r R
 done_both (Ok x) P Q R f h k = f h k
 done_both (Err e) P Q R f h k = h

@@ -7,7 +7,8 @@ use Rattle.mesh_model.specs.Seen.{kept_parts, named_places, triangles_of_parts}
 
 -- ` vertices V triangles T`, and the end of the line
 abbrev pub counts_text : ℕ → ℕ → List ℕ
-counts_text vertices triangles = codes " vertices " ++ (decimal vertices ++ (codes " triangles " ++ (decimal triangles ++ codes "\n")))
+counts_text vertices triangles =
+    codes " vertices " ++ (decimal vertices ++ (codes " triangles " ++ (decimal triangles ++ codes "\n")))
 
 -- the line of the end of a frame: its pass, its number, and how many vertices and triangles its text has
 unfoldable pub closed_line : ℕ → ℕ → ℕ → ℕ → List ℕ
@@ -17,12 +18,14 @@ closed_line p number vertices triangles =
 -- `endseen P: closed f kept P of Q`
 unfoldable pub kept_text : ℕ → ℕ → ℕ → ℕ → List ℕ
 kept_text p number kept parts =
-    codes "endseen " ++ (decimal p ++ (codes ": closed " ++ (decimal number ++ (codes " kept " ++ (decimal kept ++ (codes " of " ++ decimal parts))))))
+    codes "endseen " ++ (decimal p ++ (codes ": closed " ++ (decimal number
+    ++ (codes " kept " ++ (decimal kept ++ (codes " of " ++ decimal parts))))))
 
 -- the line of the end of a frame of which some parts are written: how many of how many, and how many vertices and
 -- triangles these have
 unfoldable pub closed_seen_line : ℕ → ℕ → ℕ → ℕ → ℕ → ℕ → List ℕ
-closed_seen_line p number kept parts vertices triangles = kept_text p number kept parts ++ counts_text vertices triangles
+closed_seen_line p number kept parts vertices triangles =
+    kept_text p number kept parts ++ counts_text vertices triangles
 
 -- the line of such an end of a pass without a frame
 unfoldable pub unseen_line : ℕ → List ℕ

@@ -1,5 +1,5 @@
--- What the steps of a play script do over a terrain: each event is answered by the plan, a frame that ends is put, and then
--- the step's line is written.
+-- What the steps of a play script do over a terrain: each event is answered by the plan, a frame that ends is put, and
+-- then the step's line is written.
 use Rattle.std.specs.Prelude.{ℕ, List, [], ◌∷◌, ◌++◌, Option, Some, None}
 use Rattle.terrain_model.specs.Terrain.{Terrain}
 use Rattle.plan_model.specs.States.{State, OpenFrame, start_state, pass_at, frame_of}

@@ -12,7 +12,8 @@ whole_text k levels x y terrain = frame_text 0 x y (whole_regions k levels x y) 
 -- the line that tells of a frame: its number, and how many vertices and triangles its text has
 abbrev pub told_line : ℕ → ℕ → ℕ → List ℕ
 told_line number vertices triangles =
-    codes "frame " ++ (decimal number ++ (codes " vertices " ++ (decimal vertices ++ (codes " triangles " ++ (decimal triangles ++ codes "\n")))))
+    codes "frame " ++ (decimal number
+    ++ (codes " vertices " ++ (decimal vertices ++ (codes " triangles " ++ (decimal triangles ++ codes "\n")))))
 
 -- the line that tells of the frame of whole windows
 unfoldable pub whole_line : ℕ → ℕ → ℤ → ℤ → Terrain → List ℕ

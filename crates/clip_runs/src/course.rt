@@ -5,6 +5,7 @@ ghost use Rattle.run_actions.specs.Runs.{HadReason, Ran};
 ghost use Rattle.clip_runs.specs.Courses.{IsCourseInRange, course_actions, course_view};
 ghost use Rattle.clip_runs.specs.Statuses.{IsComplete, IsRunStatus, ended_by};
 
+use crate::means::Means;
 use crate::play::play;
 use crate::single::single_frame;
 use crate::statuses::run_status;
@@ -32,22 +33,21 @@ pub enum Course<'a> {
 }
 
 // Does a course.
-fn do_course<F: Filler, S: Shelf, K: Sink>(
-    alloc: Global,
-    filler: &F,
+fn do_course<R: Threads + Sync, F: Filler, S: Shelf, K: Sink>(
+    means: &Means<'_, R, F>,
     course: &Course<'_>,
-    name: &str,
     shelf: &mut S,
     out: &mut K,
 ) -> Result<(), Halt>
-    requires in_range { IsCourseInRange (F.land filler.now).levels (course_view course.now) }
-    ensures ran { Ran S.leaves 0 (course_actions (course_view course.now) (F.land filler.now) name.now) result
+    requires in_range { IsCourseInRange (F.land means.now.filler.now).levels (course_view course.now) }
+    ensures ran { Ran S.leaves 0
+        (course_actions (course_view course.now) (F.land means.now.filler.now) means.now.name.now) result
         (S.told shelf.old) (S.told shelf.new) (K.told out.old) (K.told out.new) }
     ensures reason { HadReason result (S.told shelf.old) (S.told shelf.new) (K.told out.old) (K.told out.new) }
 {
     match *course {
-        Course::Frame { k, x, y } => single_frame(alloc, filler, k, x, y, name, shelf, out),
-        Course::Play(script) => play(alloc, filler, script, name, shelf, out),
+        Course::Frame { k, x, y } => single_frame(means, k, x, y, shelf, out),
+        Course::Play(script) => play(means, script, shelf, out),
     }
 }
 
@@ -77,7 +77,8 @@ pub fn run_course<R: Threads + Sync, F: Filler + Sync, S: Shelf, K: Sink>(
 
     // What was done of the course's actions, by how the run with that status ended: all of them, or a front of them and
     // what the refused one left. No call is made that they don't have.
-    ensures ran { Ran S.leaves 0 (course_actions (course_view course.now) (F.land filler.now) name.now) (ended_by result)
+    ensures ran { Ran S.leaves 0
+        (course_actions (course_view course.now) (F.land filler.now) name.now) (ended_by result)
         (S.told shelf.old) (S.told shelf.new) (K.told out.old) (K.told out.new) }
 
     // The causes of a status hold for every shelf and sink.
@@ -88,6 +89,11 @@ pub fn run_course<R: Threads + Sync, F: Filler + Sync, S: Shelf, K: Sink>(
     ensures complete { IsComplete result
         (S.told shelf.old) (S.told shelf.new) (K.told out.old) (K.told out.new) }
 {
-    let _ = rt;
-    run_status(do_course(alloc, filler, course, name, shelf, out))
+    let means = Means {
+        rt,
+        alloc,
+        filler,
+        name,
+    };
+    run_status(do_course(&means, course, shelf, out))
 }

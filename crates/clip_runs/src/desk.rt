@@ -1,6 +1,7 @@
 //! A book whose jobs are filled as soon as they are claimed.
 
-ghost use Rattle.std.specs.Prelude.{◌≡◌, ◌<◌, ◌^◌, length, replicate, slice_index_or, slice_set, IfOk, Some, None};
+ghost use Rattle.std.specs.Prelude.{◌≡◌, ◌<◌, ◌^◌, IfOk, Some, None};
+ghost use Rattle.std.specs.Prelude.{length, replicate, slice_index_or, slice_set};
 ghost use Rattle.plan_model.specs.Limits.{IsSize};
 ghost use Rattle.plan_model.specs.Steps.{job_answer};
 ghost use Rattle.plan_model.specs.declared.events.Event.TheVariants.{Claim, Finish};
@@ -157,9 +158,6 @@ impl Desk {
         others_keep_parts();
         refusals_change_nothing();
         filled_jobs_go_back();
-        if self.book.has_job(pass) {
-            return Answer::HasWork;
-        }
         match self.book.claim(pass) {
             Claimed::Job(job) => {
                 let answer = told_job(&job);

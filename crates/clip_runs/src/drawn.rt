@@ -16,11 +16,13 @@ use crate::lines::{KeptCounts, closed_line, closed_seen_line, frame_line};
 use clip_book::{Book, FrameNote};
 use clip_script::View;
 use decode_workers::draw;
-use obj_frames::{Header, Part, cull, frame_text};
+use obj_frames::{Header, Part, cull};
 use outer_shelf::{Shelf, Sink};
+use parallel_text::frame_text_beside;
 use region_cull::kept;
 use run_actions::{Halt, put, write};
 use std::alloc::{AllocError, Global};
+use std::thread::Threads;
 
 /// A frame, drawn.
 #[derive(Drop)]
@@ -54,9 +56,11 @@ pub(crate) fn frame_name(alloc: Global, name: &str, number: u64) -> Result<Strin
     format!(in alloc; "{name}-{number}.obj")
 }
 
-/// Draws the frame of a pass that ends it.
-pub(crate) fn draw_whole(
+/// Draws the frame of a pass that ends it. Its text is made in the room of another text.
+pub(crate) fn draw_whole<R: Threads + Sync>(
+    rt: &R,
     alloc: Global,
+    text: Vec<u8>,
     book: &Book,
     pass: u8,
     note: &FrameNote,
@@ -73,7 +77,7 @@ pub(crate) fn draw_whole(
     let Ok(mesh) = draw(alloc, book, pass) else {
         return Err(AllocError);
     };
-    let Ok(text) = frame_text(alloc, &mesh, &header_of(note)) else {
+    let Ok(text) = frame_text_beside(rt, alloc, text, &mesh, &header_of(note)) else {
         return Err(AllocError);
     };
     let vertices = mesh.vertices().len();
@@ -82,7 +86,8 @@ pub(crate) fn draw_whole(
 }
 
 /// Draws the frame of a pass that is told of alone, by its number and what its text has.
-pub(crate) fn draw_alone(
+pub(crate) fn draw_alone<R: Threads + Sync>(
+    rt: &R,
     alloc: Global,
     book: &Book,
     pass: u8,
@@ -101,7 +106,8 @@ pub(crate) fn draw_alone(
     let Ok(mesh) = draw(alloc, book, pass) else {
         return Err(AllocError);
     };
-    let Ok(text) = frame_text(alloc, &mesh, &header_of(note)) else {
+    let text = Vec::new(alloc);
+    let Ok(text) = frame_text_beside(rt, alloc, text, &mesh, &header_of(note)) else {
         return Err(AllocError);
     };
     let vertices = mesh.vertices().len();
@@ -163,7 +169,8 @@ pub(crate) fn put_frame<S: Shelf, K: Sink>(
     name: &str,
     drawn: &Drawn,
 ) -> Result<(), Halt>
-    ensures ran { Ran S.leaves 0 (Put name.now drawn.now.text.items ∷ Write (string_bytes drawn.now.line) ∷ []) result
+    ensures ran { Ran S.leaves 0
+        (Put name.now drawn.now.text.items ∷ Write (string_bytes drawn.now.line) ∷ []) result
         (S.told shelf.old) (S.told shelf.new) (K.told out.old) (K.told out.new) }
     ensures reason { HadReason result (S.told shelf.old) (S.told shelf.new) (K.told out.old) (K.told out.new) }
 {

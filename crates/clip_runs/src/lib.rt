@@ -1,5 +1,5 @@
-//! The run of a course over a terrain: frames are drawn from a book that is filled as it goes, put on a shelf, and told of
-//! in lines of an output.
+//! The run of a course over a terrain: frames are drawn from a book that is filled as it goes, put on a shelf, and told
+//! of in lines of an output.
 //!
 //! A run is handed whatever fills jobs, and no table of heights: all that it can read of the terrain are the heights
 //! that its book keeps.
@@ -9,6 +9,7 @@ mod course;
 mod desk;
 mod drawn;
 mod lines;
+mod means;
 mod play;
 mod settling;
 mod single;

@@ -1,6 +1,6 @@
 //! The steps of a play script.
 
-ghost use Rattle.std.specs.Prelude.{◌≡◌, ◌<◌, ◌≤◌, ◌∷◌, [], ◌^◌, All, OnOk, length, vec_len, string_bytes};
+ghost use Rattle.std.specs.Prelude.{◌≡◌, ◌<◌, ◌≤◌, ◌∷◌, [], ◌^◌, All, OnOk, length, string_bytes};
 ghost use Rattle.outer_shelf.specs.Counts.{Rose};
 ghost use Rattle.plan_model.specs.States.{frame_of, pass_at};
 ghost use Rattle.plan_model.specs.Steps.{step};
@@ -12,12 +12,14 @@ ghost use Rattle.run_actions.specs.Runs.{CallsWithin, HadReason, OnHalt, Ran, Wr
 ghost use Rattle.clip_runs.specs.Desks.{Goes};
 ghost use Rattle.clip_runs.specs.Frames.{frame_name};
 ghost use Rattle.clip_runs.specs.Lines.{view_line};
-ghost use Rattle.clip_runs.specs.Plays.{end_actions, end_seen_actions, event_actions, play_actions, step_actions, steps_actions};
+ghost use Rattle.clip_runs.specs.Plays.{end_actions, end_seen_actions, event_actions};
+ghost use Rattle.clip_runs.specs.Plays.{play_actions, step_actions, steps_actions};
 ghost use Rattle.clip_runs.specs.Stages.{HasTaken, is_end, scene_of};
 
 use crate::desk::Desk;
 use crate::drawn::{Drawn, draw_seen, draw_whole, frame_name, put_frame};
 use crate::lines::{event_line, unseen_line, view_line};
+use crate::means::Means;
 use clip_script::{PlayScript, Step, View};
 use decode_workers::Filler;
 use outer_shelf::{Shelf, Sink};
@@ -25,12 +27,16 @@ use plan_holds::steps_go_on;
 use plan_model::Event;
 use run_actions::{Halt, write};
 use std::alloc::Global;
+use std::mem;
+use std::thread::Threads;
 
 /// A play between two steps: its book, and the view.
 #[derive(Drop)]
 pub(crate) struct Stage {
     pub(crate) desk: Desk,
     pub(crate) view: View,
+    // The text of the latest whole frame, whose room the next one uses again.
+    text: Vec<u8>,
 }
 
 // Whether an event is the end of a frame.
@@ -65,15 +71,14 @@ fn put_numbered<S: Shelf, K: Sink>(
 }
 
 // Takes an event of a pass, and writes its line.
-fn take_event<F: Filler, K: Sink>(
-    alloc: Global,
-    filler: &F,
+fn take_event<R: Threads + Sync, F: Filler, K: Sink>(
+    means: &Means<'_, R, F>,
     desk: &mut Desk,
     pass: u8,
     event: Event,
     out: &mut K,
 ) -> Result<(), Halt>
-    requires land { F.land filler.now ≡ desk.old.land }
+    requires land { F.land means.now.filler.now ≡ desk.old.land }
     requires asked { IsAsked (length desk.old.plan.state.levels) pass event }
     requires moves { desk.old.plan.moves < 2 ^ 40 }
     requires begun { desk.old.plan.state.begun < 2 ^ 40 }
@@ -84,105 +89,115 @@ fn take_event<F: Filler, K: Sink>(
     ensures reason { OnHalt result ⊥ (Rose (K.told out.old).faults (K.told out.new).faults) }
     ensures faults_stay { (K.told out.old).faults ≤ (K.told out.new).faults }
 {
-    let answer = desk.take(filler, pass, event);
-    match event_line(alloc, pass, event, answer) {
+    let answer = desk.take(means.filler, pass, event);
+    match event_line(means.alloc, pass, event, answer) {
         Ok(line) => write(out, line.as_slice()),
         Err(_) => Err(Halt::NoMemory),
     }
 }
 
 // Pass `pass` ends its frame, which is put, and the line of the end is written.
-fn end_frame<F: Filler, S: Shelf, K: Sink>(
-    alloc: Global,
-    filler: &F,
-    desk: &mut Desk,
-    pass: u8,
-    name: &str,
-    shelf: &mut S,
-    out: &mut K,
-) -> Result<(), Halt>
-    requires land { F.land filler.now ≡ desk.old.land }
-    requires asked { IsAsked (length desk.old.plan.state.levels) pass End }
-    requires moves { desk.old.plan.moves < 2 ^ 40 }
-    requires begun { desk.old.plan.state.begun < 2 ^ 40 }
-    ensures goes { OnOk result (Goes pass End desk.old desk.new) }
-    ensures ran { Ran S.leaves 0 (end_actions desk.old.land.terrain name.now desk.old.plan.state.k pass
-        (frame_of (pass_at desk.old.plan.state pass))) result
-        (S.told shelf.old) (S.told shelf.new) (K.told out.old) (K.told out.new) }
-    ensures reason { HadReason result (S.told shelf.old) (S.told shelf.new) (K.told out.old) (K.told out.new) }
-{
-    match desk.book().frame_of(pass) {
-        Some(note) => match draw_whole(alloc, desk.book(), pass, &note) {
-            Ok(drawn) => {
-                let _ = desk.take(filler, pass, Event::End);
-                put_numbered(alloc, name, note.number, &drawn, shelf, out)
-            }
-            Err(_) => Err(Halt::NoMemory),
-        },
-        None => take_event(alloc, filler, desk, pass, Event::End, out),
-    }
-}
-
-// Takes an event of a pass: a frame that ends is put. Then the line is written.
-fn take_book<F: Filler, S: Shelf, K: Sink>(
-    alloc: Global,
-    filler: &F,
-    desk: &mut Desk,
-    pass: u8,
-    event: Event,
-    name: &str,
-    shelf: &mut S,
-    out: &mut K,
-) -> Result<(), Halt>
-    requires land { F.land filler.now ≡ desk.old.land }
-    requires asked { IsAsked (length desk.old.plan.state.levels) pass event }
-    requires moves { desk.old.plan.moves < 2 ^ 40 }
-    requires begun { desk.old.plan.state.begun < 2 ^ 40 }
-    ensures goes { OnOk result (Goes pass event desk.old desk.new) }
-    ensures ran { Ran S.leaves 0
-        (event_actions desk.old.land.terrain name.now desk.old.plan.state pass event) result
-        (S.told shelf.old) (S.told shelf.new) (K.told out.old) (K.told out.new) }
-    ensures reason { HadReason result (S.told shelf.old) (S.told shelf.new) (K.told out.old) (K.told out.new) }
-{
-    if is_end(event) {
-        end_frame(alloc, filler, desk, pass, name, shelf, out)
-    } else {
-        take_event(alloc, filler, desk, pass, event, out)
-    }
-}
-
-// Pass `pass` ends its frame, of which the parts that the view keeps are put, and the line of the end is written.
-fn end_seen<F: Filler, S: Shelf, K: Sink>(
-    alloc: Global,
-    filler: &F,
+fn end_frame<R: Threads + Sync, F: Filler, S: Shelf, K: Sink>(
+    means: &Means<'_, R, F>,
     stage: &mut Stage,
     pass: u8,
-    name: &str,
     shelf: &mut S,
     out: &mut K,
 ) -> Result<(), Halt>
-    requires land { F.land filler.now ≡ stage.old.desk.land }
+    requires land { F.land means.now.filler.now ≡ stage.old.desk.land }
     requires asked { IsAsked (length stage.old.desk.plan.state.levels) pass End }
     requires moves { stage.old.desk.plan.moves < 2 ^ 40 }
     requires begun { stage.old.desk.plan.state.begun < 2 ^ 40 }
     ensures goes { OnOk result (Goes pass End stage.old.desk stage.new.desk) }
     ensures view { OnOk result (stage.new.view ≡ stage.old.view) }
-    ensures ran { Ran S.leaves 0 (end_seen_actions stage.old.desk.land.terrain name.now stage.old.desk.plan.state.k
+    ensures ran { Ran S.leaves 0
+        (end_actions stage.old.desk.land.terrain means.now.name.now stage.old.desk.plan.state.k pass
+        (frame_of (pass_at stage.old.desk.plan.state pass))) result
+        (S.told shelf.old) (S.told shelf.new) (K.told out.old) (K.told out.new) }
+    ensures reason { HadReason result (S.told shelf.old) (S.told shelf.new) (K.told out.old) (K.told out.new) }
+{
+    match stage.desk.book().frame_of(pass) {
+        Some(note) => {
+            let text = mem::replace(&mut stage.text, Vec::new(means.alloc));
+            match draw_whole(means.rt, means.alloc, text, stage.desk.book(), pass, &note) {
+                Ok(drawn) => {
+                    let _ = stage.desk.take(means.filler, pass, Event::End);
+                    let done = put_numbered(
+                        means.alloc,
+                        means.name,
+                        note.number,
+                        &drawn,
+                        shelf,
+                        out,
+                    );
+                    stage.text = drawn.text;
+                    done
+                }
+                Err(_) => Err(Halt::NoMemory),
+            }
+        }
+        None => take_event(means, &mut stage.desk, pass, Event::End, out),
+    }
+}
+
+// Takes an event of a pass: a frame that ends is put. Then the line is written.
+fn take_book<R: Threads + Sync, F: Filler, S: Shelf, K: Sink>(
+    means: &Means<'_, R, F>,
+    stage: &mut Stage,
+    pass: u8,
+    event: Event,
+    shelf: &mut S,
+    out: &mut K,
+) -> Result<(), Halt>
+    requires land { F.land means.now.filler.now ≡ stage.old.desk.land }
+    requires asked { IsAsked (length stage.old.desk.plan.state.levels) pass event }
+    requires moves { stage.old.desk.plan.moves < 2 ^ 40 }
+    requires begun { stage.old.desk.plan.state.begun < 2 ^ 40 }
+    ensures goes { OnOk result (Goes pass event stage.old.desk stage.new.desk) }
+    ensures view { OnOk result (stage.new.view ≡ stage.old.view) }
+    ensures ran { Ran S.leaves 0
+        (event_actions stage.old.desk.land.terrain means.now.name.now stage.old.desk.plan.state pass event) result
+        (S.told shelf.old) (S.told shelf.new) (K.told out.old) (K.told out.new) }
+    ensures reason { HadReason result (S.told shelf.old) (S.told shelf.new) (K.told out.old) (K.told out.new) }
+{
+    if is_end(event) {
+        end_frame(means, stage, pass, shelf, out)
+    } else {
+        take_event(means, &mut stage.desk, pass, event, out)
+    }
+}
+
+// Pass `pass` ends its frame, of which the parts that the view keeps are put, and the line of the end is written.
+fn end_seen<R: Threads + Sync, F: Filler, S: Shelf, K: Sink>(
+    means: &Means<'_, R, F>,
+    stage: &mut Stage,
+    pass: u8,
+    shelf: &mut S,
+    out: &mut K,
+) -> Result<(), Halt>
+    requires land { F.land means.now.filler.now ≡ stage.old.desk.land }
+    requires asked { IsAsked (length stage.old.desk.plan.state.levels) pass End }
+    requires moves { stage.old.desk.plan.moves < 2 ^ 40 }
+    requires begun { stage.old.desk.plan.state.begun < 2 ^ 40 }
+    ensures goes { OnOk result (Goes pass End stage.old.desk stage.new.desk) }
+    ensures view { OnOk result (stage.new.view ≡ stage.old.view) }
+    ensures ran { Ran S.leaves 0
+        (end_seen_actions stage.old.desk.land.terrain means.now.name.now stage.old.desk.plan.state.k
         stage.old.view pass (frame_of (pass_at stage.old.desk.plan.state pass))) result
         (S.told shelf.old) (S.told shelf.new) (K.told out.old) (K.told out.new) }
     ensures reason { HadReason result (S.told shelf.old) (S.told shelf.new) (K.told out.old) (K.told out.new) }
 {
     match stage.desk.book().frame_of(pass) {
-        Some(note) => match draw_seen(alloc, stage.desk.book(), pass, &note, &stage.view) {
+        Some(note) => match draw_seen(means.alloc, stage.desk.book(), pass, &note, &stage.view) {
             Ok(drawn) => {
-                let _ = stage.desk.take(filler, pass, Event::End);
-                put_numbered(alloc, name, note.number, &drawn, shelf, out)
+                let _ = stage.desk.take(means.filler, pass, Event::End);
+                put_numbered(means.alloc, means.name, note.number, &drawn, shelf, out)
             }
             Err(_) => Err(Halt::NoMemory),
         },
         None => {
-            let _ = stage.desk.take(filler, pass, Event::End);
-            match unseen_line(alloc, pass) {
+            let _ = stage.desk.take(means.filler, pass, Event::End);
+            match unseen_line(means.alloc, pass) {
                 Ok(line) => write(out, line.as_bytes()),
                 Err(_) => Err(Halt::NoMemory),
             }
@@ -206,65 +221,51 @@ fn see<K: Sink>(alloc: Global, view: &mut View, seen: &View, out: &mut K) -> Res
 }
 
 // Takes a step: the event is done, then its file is put, then its line is written.
-fn take_step<F: Filler, S: Shelf, K: Sink>(
-    alloc: Global,
-    filler: &F,
+fn take_step<R: Threads + Sync, F: Filler, S: Shelf, K: Sink>(
+    means: &Means<'_, R, F>,
     stage: &mut Stage,
     step: &Step,
-    name: &str,
     shelf: &mut S,
     out: &mut K,
 ) -> Result<(), Halt>
-    requires land { F.land filler.now ≡ stage.old.desk.land }
+    requires land { F.land means.now.filler.now ≡ stage.old.desk.land }
     requires step { IsStep (length stage.old.desk.plan.state.levels) step.now }
     requires moves { stage.old.desk.plan.moves < 2 ^ 40 }
     requires begun { stage.old.desk.plan.state.begun < 2 ^ 40 }
     ensures taken { OnOk result (HasTaken step.now stage.old stage.new) }
-    ensures ran { Ran S.leaves 0 (step_actions stage.old.desk.land.terrain name.now (scene_of stage.old) step.now) result
+    ensures ran { Ran S.leaves 0
+        (step_actions stage.old.desk.land.terrain means.now.name.now (scene_of stage.old) step.now) result
         (S.told shelf.old) (S.told shelf.new) (K.told out.old) (K.told out.new) }
     ensures reason { HadReason result (S.told shelf.old) (S.told shelf.new) (K.told out.old) (K.told out.new) }
 {
     steps_go_on();
     match *step {
-        Step::Book { pass, event } => {
-            take_book(
-                alloc,
-                filler,
-                &mut stage.desk,
-                pass,
-                event,
-                name,
-                shelf,
-                out,
-            )
-        }
-        Step::See(view) => see(alloc, &mut stage.view, &view, out),
-        Step::EndSeen { pass } => end_seen(alloc, filler, stage, pass, name, shelf, out),
+        Step::Book { pass, event } => take_book(means, stage, pass, event, shelf, out),
+        Step::See(view) => see(means.alloc, &mut stage.view, &view, out),
+        Step::EndSeen { pass } => end_seen(means, stage, pass, shelf, out),
     }
 }
 
 // Takes steps, one after another.
-fn take_steps<F: Filler, S: Shelf, K: Sink>(
-    alloc: Global,
-    filler: &F,
+fn take_steps<R: Threads + Sync, F: Filler, S: Shelf, K: Sink>(
+    means: &Means<'_, R, F>,
     stage: &mut Stage,
     steps: &[Step],
-    name: &str,
     shelf: &mut S,
     out: &mut K,
 ) -> Result<(), Halt>
-    requires land { F.land filler.now ≡ stage.old.desk.land }
+    requires land { F.land means.now.filler.now ≡ stage.old.desk.land }
     requires steps { All (IsStep (length stage.old.desk.plan.state.levels)) steps.now }
     requires few { length steps.now ≤ 1048577 }
     requires moves { stage.old.desk.plan.moves ≡ 0 }
     requires begun { stage.old.desk.plan.state.begun ≡ 0 }
     ensures ran { Ran S.leaves 0
-        (steps_actions stage.old.desk.land.terrain name.now (scene_of stage.old) steps.now) result
+        (steps_actions stage.old.desk.land.terrain means.now.name.now (scene_of stage.old) steps.now) result
         (S.told shelf.old) (S.told shelf.new) (K.told out.old) (K.told out.new) }
     ensures reason { HadReason result (S.told shelf.old) (S.told shelf.new) (K.told out.old) (K.told out.new) }
 {
     for step in steps {
-        match take_step(alloc, filler, stage, step, name, shelf, out) {
+        match take_step(means, stage, step, shelf, out) {
             Ok(()) => {}
             Err(halt) => return Err(halt),
         }
@@ -274,31 +275,31 @@ fn take_steps<F: Filler, S: Shelf, K: Sink>(
 
 /// Takes the steps of a play script, one after another.
 #[tactic(auto, unfolding(crate::specs::Plays::play_actions))]
-pub(crate) fn play<F: Filler, S: Shelf, K: Sink>(
-    alloc: Global,
-    filler: &F,
+pub(crate) fn play<R: Threads + Sync, F: Filler, S: Shelf, K: Sink>(
+    means: &Means<'_, R, F>,
     script: &PlayScript,
-    name: &str,
     shelf: &mut S,
     out: &mut K,
 ) -> Result<(), Halt>
     requires sizes { AreSizes script.now.k script.now.levels }
     requires steps { All (IsStep script.now.levels) script.now.steps.items }
     requires few { length script.now.steps.items ≤ 1048577 }
-    requires levels { script.now.levels ≡ (F.land filler.now).levels }
+    requires levels { script.now.levels ≡ (F.land means.now.filler.now).levels }
     ensures ran { Ran S.leaves 0
-        (play_actions (F.land filler.now).terrain script.now.k script.now.levels script.now.steps.items name.now) result
+        (play_actions (F.land means.now.filler.now).terrain script.now.k script.now.levels script.now.steps.items
+        means.now.name.now) result
         (S.told shelf.old) (S.told shelf.new) (K.told out.old) (K.told out.new) }
     ensures reason { HadReason result (S.told shelf.old) (S.told shelf.new) (K.told out.old) (K.told out.new) }
 {
-    match Desk::start(alloc, filler.shape(), script.k) {
+    match Desk::start(means.alloc, means.filler.shape(), script.k) {
         Ok(desk) => {
             let mut stage = Stage {
                 desk,
                 view: View::empty(),
+                text: Vec::new(means.alloc),
             };
             let steps = script.steps.as_slice();
-            take_steps(alloc, filler, &mut stage, steps, name, shelf, out)
+            take_steps(means, &mut stage, steps, shelf, out)
         }
         Err(_) => Err(Halt::NoMemory),
     }

@@ -12,6 +12,7 @@ ghost use Rattle.clip_runs.specs.WholeFrame.{frame_actions};
 
 use crate::desk::{Desk, NoMemory};
 use crate::drawn::{draw_alone, put_frame};
+use crate::means::Means;
 use crate::settling::settle;
 use clip_book::FrameNote;
 use decode_workers::Filler;
@@ -21,6 +22,7 @@ use plan_holds::steps_go_on;
 use plan_model::Event;
 use run_actions::Halt;
 use std::alloc::Global;
+use std::thread::Threads;
 
 // A book with the windows round a viewer filled.
 fn fill_whole<F: Filler>(alloc: Global, filler: &F, k: u8, x: i32, y: i32) -> Result<Desk, NoMemory>
@@ -64,13 +66,11 @@ fn begin_whole<F: Filler>(filler: &F, desk: &mut Desk) -> FrameNote
 }
 
 /// Draws frame 0 of the windows round a viewer, all of them whole, puts it and writes its line.
-pub(crate) fn single_frame<F: Filler, S: Shelf, K: Sink>(
-    alloc: Global,
-    filler: &F,
+pub(crate) fn single_frame<R: Threads + Sync, F: Filler, S: Shelf, K: Sink>(
+    means: &Means<'_, R, F>,
     k: u8,
     x: i32,
     y: i32,
-    name: &str,
     shelf: &mut S,
     out: &mut K,
 ) -> Result<(), Halt>
@@ -78,17 +78,18 @@ pub(crate) fn single_frame<F: Filler, S: Shelf, K: Sink>(
     requires column { IsViewed x }
     requires row { IsViewed y }
     ensures ran { Ran S.leaves 0
-        (frame_actions k (F.land filler.now).levels x y name.now (F.land filler.now).terrain) result
+        (frame_actions k (F.land means.now.filler.now).levels x y means.now.name.now
+        (F.land means.now.filler.now).terrain) result
         (S.told shelf.old) (S.told shelf.new) (K.told out.old) (K.told out.new) }
     ensures reason { HadReason result (S.told shelf.old) (S.told shelf.new) (K.told out.old) (K.told out.new) }
 {
-    match fill_whole(alloc, filler, k, x, y) {
+    match fill_whole(means.alloc, means.filler, k, x, y) {
         Ok(mut desk) => {
-            let note = begin_whole(filler, &mut desk);
-            match draw_alone(alloc, desk.book(), 0, &note) {
+            let note = begin_whole(means.filler, &mut desk);
+            match draw_alone(means.rt, means.alloc, desk.book(), 0, &note) {
                 Ok(drawn) => {
-                    let _ = desk.take(filler, 0, Event::End);
-                    put_frame(shelf, out, name, &drawn)
+                    let _ = desk.take(means.filler, 0, Event::End);
+                    put_frame(shelf, out, means.name, &drawn)
                 }
                 Err(_) => Err(Halt::NoMemory),
             }

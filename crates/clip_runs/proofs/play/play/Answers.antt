@@ -7,7 +7,7 @@ use Rattle.clip_runs.proofs.play.play.Goals as goal
 
 pub take_steps-requires-clause-begun : goal.take_steps-requires-clause-begun
 unfolding start_state
-take_steps-requires-clause-begun g c = ap (λ (plan : PlanView). plan.state.begun) c.in-Ok.ensures.plan
+take_steps-requires-clause-begun g c _ _ = ap (λ (plan : PlanView). plan.state.begun) c.in-Ok.ensures.plan
 
 pub returns-in-Err-clause-ran : goal.returns-in-Err-clause-ran
 returns-in-Err-clause-ran g c =

@@ -1,20 +1,18 @@
-use Rattle.std.proofs.Common.{◌≡◌, refl, sym, subst}
+use Rattle.std.proofs.Common.{◌≡◌, sym, subst}
 use Rattle.std.specs.Prelude.{OnOk}
 use Rattle.clip_script.specs.declared.step.Step.{Step}
 use Rattle.clip_script.specs.declared.step.Step.TheVariants.{Book, EndSeen}
 use Rattle.clip_runs.specs.Desks.{Goes}
 use Rattle.clip_runs.specs.Stages.{HasTaken}
-use Rattle.clip_runs.specs.declared.play.Stage.{Stage}
 use Rattle.plan_model.specs.declared.events.Event.TheVariants.{End}
-use Rattle.clip_runs.proofs.Steps.{book_taken, done_both, done_then, seen_taken}
+use Rattle.clip_runs.proofs.Steps.{book_taken, done_both, seen_taken}
 use Rattle.clip_runs.proofs.play.take_step.Goals as goal
 
 pub returns-in-Book-clause-taken : goal.returns-in-Book-clause-taken
 returns-in-Book-clause-taken g c =
-    let next : Stage = record { desk = c.take_book.new.desk; view = c.args.stage.now.view } in
-    subst (λ (s : Step). OnOk c.take_book.result (HasTaken s c.args.stage.now next)) (sym c.in-Book.is)
-    (done_then c.take_book.result (Goes c.in-Book.pass c.in-Book.event c.args.stage.now.desk c.take_book.new.desk) (HasTaken (Book c.in-Book.pass c.in-Book.event) c.args.stage.now next)
-    (λ goes. book_taken c.steps_go_on.ensures c.in-Book.pass c.in-Book.event c.args.stage.now next goes refl) c.take_book.ensures.goes)
+    subst (λ (s : Step). OnOk c.take_book.result (HasTaken s c.args.stage.now c.take_book.new.stage)) (sym c.in-Book.is)
+    (done_both c.take_book.result (Goes c.in-Book.pass c.in-Book.event c.args.stage.now.desk c.take_book.new.stage.desk) (c.take_book.new.stage.view ≡ c.args.stage.now.view) (HasTaken (Book c.in-Book.pass c.in-Book.event) c.args.stage.now c.take_book.new.stage)
+    (λ goes view. book_taken c.steps_go_on.ensures c.in-Book.pass c.in-Book.event c.args.stage.now c.take_book.new.stage goes view) c.take_book.ensures.goes c.take_book.ensures.view)
 
 pub returns-in-EndSeen-clause-taken : goal.returns-in-EndSeen-clause-taken
 returns-in-EndSeen-clause-taken g c =

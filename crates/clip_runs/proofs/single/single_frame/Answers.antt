@@ -17,12 +17,12 @@ take-requires-clause-begun g c = omega (arith, c.begin_whole-note.ensures.one)
 
 pub returns-in-Ok-draw_alone-clause-ran : goal.returns-in-Ok-draw_alone-clause-ran
 returns-in-Ok-draw_alone-clause-ran g c =
-    let land = g.F.Filler.land c.args.filler.now in
+    let land = g.F.Filler.land c.args.means.now.filler.now in
     let x : to_z w32 (of_z w32 c.args.x) ≡ c.args.x = search rules in
     let y : to_z w32 (of_z w32 c.args.y) ≡ c.args.y = search rules in
     let filled = simp (x, y) at c.in-Ok.ensures.filled in
     subst (λ actions. Ran g.S.Shelf.leaves 0 actions c.put_frame.result (g.S.Shelf.told c.args.shelf.now) (g.S.Shelf.told c.put_frame.new.shelf) (g.K.Sink.told c.args.out.now) (g.K.Sink.told c.put_frame.new.out))
-    (whole_put c.args.k land.levels c.args.x c.args.y land.terrain c.args.name.now c.in-Ok-draw_alone.drawn.text.items (string_bytes c.in-Ok-draw_alone.drawn.line) (open_frame c.begin_whole-note.result) _ _
+    (whole_put c.args.k land.levels c.args.x c.args.y land.terrain c.args.means.now.name.now c.in-Ok-draw_alone.drawn.text.items (string_bytes c.in-Ok-draw_alone.drawn.line) (open_frame c.begin_whole-note.result) _ _
     (c.begin_whole-note.ensures.whole ∙ whole_framed c.args.k c.args.x c.args.y land c.in-Ok.desk filled)
     (ap (λ (v : BookView). v.plan.state.k) c.book.ensures ∙ c.begin_whole-note.ensures.size ∙ filled.size)
     (ap (λ (v : BookView). v.land.terrain) c.book.ensures ∙ ap (λ (l : Land). l.terrain) c.begin_whole-note.ensures.land ∙ ap (λ (l : Land). l.terrain) filled.of_land)

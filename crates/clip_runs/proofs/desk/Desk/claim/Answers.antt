@@ -1,15 +1,9 @@
 use Rattle.std.proofs.Common.{◌≡◌, length, length-set, Some, refl, sym, subst, ap, ◌∙◌, set}
 use Rattle.std.proofs.lemmas.List.{with_items_is}
-use Rattle.plan_model.specs.declared.events.Event.TheVariants.{Claim}
 use Rattle.plan_model.specs.declared.events.Answer.TheVariants.{Idle, Ripe, Busy, Held, HasWork}
-use Rattle.clip_runs.specs.Desks.{HasJobs, Takes}
-use Rattle.clip_runs.proofs.Jobs.{busy_claim, given_claim, refused_claim}
+use Rattle.clip_runs.specs.Desks.{HasJobs}
+use Rattle.clip_runs.proofs.Jobs.{given_claim, refused_claim}
 use Rattle.clip_runs.proofs.desk.Desk.claim.Goals as goal
-
-pub returns-then-has_job : goal.returns-then-has_job
-returns-then-has_job g c = record {
-  takes = subst (λ v. Takes c.args.pass Claim HasWork v v) c.self.view_is (busy_claim c.args.pass c.self.inside.book (sym c.has_job.ensures ∙ c.if-has_job.true));
-}
 
 pub invariant_of-self : goal.invariant_of-self
 invariant_of-self g c =
@@ -21,20 +15,20 @@ invariant_of-self g c =
 
 pub invariant_of-self-in-Idle : goal.invariant_of-self-in-Idle
 invariant_of-self-in-Idle g c =
-    refused_claim c.others_keep_parts.ensures c.refusals_change_nothing.ensures c.args.pass Idle c.self.inside.book c.claim.new.self c.self.inside.jobs.items refl c.in-Idle.ensures.does (sym c.has_job.ensures ∙ c.if-has_job.false) c.self.invariant
+    refused_claim c.refusals_change_nothing.ensures c.args.pass Idle c.self.inside.book c.claim.new.self c.self.inside.jobs.items refl c.in-Idle.ensures.does c.in-Idle.ensures.handed c.self.invariant
 
 pub invariant_of-self-in-Ripe : goal.invariant_of-self-in-Ripe
 invariant_of-self-in-Ripe g c =
-    refused_claim c.others_keep_parts.ensures c.refusals_change_nothing.ensures c.args.pass (Ripe c.in-Ripe.level) c.self.inside.book c.claim.new.self c.self.inside.jobs.items refl c.in-Ripe.ensures.does (sym c.has_job.ensures ∙ c.if-has_job.false) c.self.invariant
+    refused_claim c.refusals_change_nothing.ensures c.args.pass (Ripe c.in-Ripe.level) c.self.inside.book c.claim.new.self c.self.inside.jobs.items refl c.in-Ripe.ensures.does c.in-Ripe.ensures.handed c.self.invariant
 
 pub invariant_of-self-in-Busy : goal.invariant_of-self-in-Busy
 invariant_of-self-in-Busy g c =
-    refused_claim c.others_keep_parts.ensures c.refusals_change_nothing.ensures c.args.pass (Busy c.in-Busy.level c.in-Busy.tile c.in-Busy.frame) c.self.inside.book c.claim.new.self c.self.inside.jobs.items refl c.in-Busy.ensures.does (sym c.has_job.ensures ∙ c.if-has_job.false) c.self.invariant
+    refused_claim c.refusals_change_nothing.ensures c.args.pass (Busy c.in-Busy.level c.in-Busy.tile c.in-Busy.frame) c.self.inside.book c.claim.new.self c.self.inside.jobs.items refl c.in-Busy.ensures.does c.in-Busy.ensures.handed c.self.invariant
 
 pub invariant_of-self-in-Held : goal.invariant_of-self-in-Held
 invariant_of-self-in-Held g c =
-    refused_claim c.others_keep_parts.ensures c.refusals_change_nothing.ensures c.args.pass (Held c.in-Held.level c.in-Held.tile c.in-Held.pass) c.self.inside.book c.claim.new.self c.self.inside.jobs.items refl c.in-Held.ensures.does (sym c.has_job.ensures ∙ c.if-has_job.false) c.self.invariant
+    refused_claim c.refusals_change_nothing.ensures c.args.pass (Held c.in-Held.level c.in-Held.tile c.in-Held.pass) c.self.inside.book c.claim.new.self c.self.inside.jobs.items refl c.in-Held.ensures.does c.in-Held.ensures.handed c.self.invariant
 
 pub invariant_of-self-in-HasWork : goal.invariant_of-self-in-HasWork
 invariant_of-self-in-HasWork g c =
-    refused_claim c.others_keep_parts.ensures c.refusals_change_nothing.ensures c.args.pass HasWork c.self.inside.book c.claim.new.self c.self.inside.jobs.items refl c.in-HasWork.ensures.does (sym c.has_job.ensures ∙ c.if-has_job.false) c.self.invariant
+    refused_claim c.refusals_change_nothing.ensures c.args.pass HasWork c.self.inside.book c.claim.new.self c.self.inside.jobs.items refl c.in-HasWork.ensures.does c.in-HasWork.ensures.handed c.self.invariant
