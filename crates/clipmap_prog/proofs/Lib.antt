@@ -1,8 +1,10 @@
 pub mod Concluding
 pub mod Fetching
+pub mod Following
 pub mod Framed
 pub mod Lists
 pub mod Mosaics
+pub mod Played
 pub mod Readings
 pub mod Sourced
 pub mod Standing

@@ -1,12 +1,13 @@
 -- What the words of a command line do.
 use Rattle.std.specs.Prelude.{ℕ, List, [], Option, None, Some}
 use Rattle.outer_shelf.specs.Outside.{Files, ShelfTold}
-use Rattle.clipmap_words.specs.Commands.{CommandView, Check, Frame, Info, Pack, PackBy, command_of}
+use Rattle.clipmap_words.specs.Commands.{CommandView, Check, Frame, Info, Pack, PackBy, Play, command_of}
 use Rattle.clipmap_prog.specs.Check.{check_outcome}
 use Rattle.clipmap_prog.specs.Faults.{Words}
 use Rattle.clipmap_prog.specs.Frame.{frame_outcome}
 use Rattle.clipmap_prog.specs.Info.{info_outcome}
 use Rattle.clipmap_prog.specs.Pack.{pack_outcome, pack_by_outcome}
+use Rattle.clipmap_prog.specs.Play.{play_outcome}
 use Rattle.clipmap_prog.specs.Outcome.{Outcome, refused}
 use Rattle.clipmap_prog.specs.Stores.{ByVerdict, Verdict}
 
@@ -17,6 +18,7 @@ command_outcome verdict (Frame frame) files = frame_outcome verdict frame files
 command_outcome verdict (Info info) files = info_outcome verdict info files
 command_outcome verdict (Pack pack) files = pack_outcome pack files
 command_outcome verdict (PackBy pack) files = pack_by_outcome verdict pack files
+command_outcome verdict (Play play) files = play_outcome verdict play files
 
 -- the same, or where the words are no command
 abbrev pub outcome_of : Verdict → Option CommandView → Files → Outcome
@@ -34,6 +36,7 @@ store_inputs (Frame frame) = frame.inputs
 store_inputs (Info info) = info.inputs
 store_inputs (Pack pack) = []
 store_inputs (PackBy pack) = pack.inputs
+store_inputs (Play play) = play.inputs
 
 abbrev pub store_inputs_of : Option CommandView → List (List ℕ)
 store_inputs_of None = []

@@ -4,6 +4,8 @@ use Rattle.std.specs.Fmt.{signed_decimal}
 use Rattle.hgt_tiles.specs.declared.tiles.TileFault.{TileFault}
 use Rattle.hgt_tiles.specs.declared.tiles.TileFault.TheVariants as tile
 use Rattle.mesh_check.specs.declared.verdict.Verdict.{Verdict}
+use Rattle.clip_script.specs.declared.fault.ScriptFault.{ScriptFault}
+use Rattle.clip_script.specs.declared.fault.ScriptFault.TheVariants as script
 use Rattle.mosaic.specs.declared.fault.MosaicFault.{MosaicFault}
 use Rattle.mosaic.specs.declared.fault.MosaicFault.TheVariants as mosaic
 use Rattle.store_model.specs.declared.fault.StoreFault.{StoreFault}
@@ -15,9 +17,8 @@ use Rattle.clipmap_prog.specs.declared.fault.Fault.{Fault}
 use Rattle.clipmap_prog.specs.declared.fault.Fault.TheVariants as fault
 
 -- why a command is refused: its words are no command, a word is no tile's name, a file or the tile in it is faulty, the
--- tiles make no terrain together, a file is no store, or it has another number of levels than was asked for, or the
--- mesh
--- of a file isn't watertight
+-- tiles make no terrain together, a file is no store, or it has another number of levels than was asked for, the mesh
+-- of a file isn't watertight, or a file is no script
 pub data Cause : Type 0 where
   Words : Cause
   BadName : List ℕ → Cause
@@ -27,6 +28,7 @@ pub data Cause : Type 0 where
   Store : StoreFault → Cause
   LevelsDiffer : ℕ → ℕ → Cause
   Mesh : Verdict → Cause
+  Script : ScriptFault → Cause
 
 -- the line of a file of that name that can't be had
 abbrev pub file_line : List ℕ → FileFault → List ℕ
@@ -50,6 +52,12 @@ mosaic_line (mosaic.SidesDiffer first other) =
 mosaic_line (mosaic.TooLarge samples) = codes "fault: TooLarge " ++ (decimal samples ++ codes "\n")
 mosaic_line mosaic.NoMemory = []
 
+-- the line of a file that is no script. Want of memory has none
+abbrev pub script_line : ScriptFault → List ℕ
+script_line (script.TooMany lines) = codes "fault: TooMany " ++ (decimal lines ++ codes "\n")
+script_line (script.BadLine line) = codes "fault: BadLine " ++ (decimal line ++ codes "\n")
+script_line script.NoMemory = []
+
 -- the line of a fault
 abbrev pub cause_line : Cause → List ℕ
 cause_line Words = codes "fault: words\n"
@@ -61,6 +69,7 @@ cause_line (Store fault) = store_fault_line fault
 cause_line (LevelsDiffer stored asked) =
     codes "fault: LevelsDiffer " ++ (decimal stored ++ (codes " " ++ (decimal asked ++ codes "\n")))
 cause_line (Mesh verdict) = verdict_line verdict
+cause_line (Script fault) = script_line fault
 
 -- the cause that a fault of the program's stands for
 abbrev pub cause_of : Fault → Cause
@@ -72,3 +81,4 @@ cause_of (fault.Mosaic which) = Mosaic which
 cause_of (fault.Store which) = Store which
 cause_of (fault.LevelsDiffer stored asked) = LevelsDiffer stored asked
 cause_of (fault.Mesh verdict) = Mesh verdict
+cause_of (fault.Script which) = Script which

@@ -5,8 +5,10 @@ pub mod Faults
 pub mod Frame
 pub mod Info
 pub mod Inputs
+pub mod Lands
 pub mod Outcome
 pub mod Pack
+pub mod Play
 pub mod Program
 pub mod Promise
 pub mod Reading

@@ -1,9 +1,10 @@
 //! Why a command is refused. A fault of a lower crate is kept as that crate has it, and one function a crate writes
 //! its line.
 ghost use Rattle.std.specs.Prelude.{◌≡◌, IfOk, string_bytes};
-ghost use Rattle.clipmap_prog.specs.Faults.{cause_line, cause_of, file_line, mosaic_line, tile_line};
+ghost use Rattle.clipmap_prog.specs.Faults.{cause_line, cause_of, file_line, mosaic_line, script_line, tile_line};
 
 use crate::verdicts::verdict_line;
+use clip_script::ScriptFault;
 use hgt_tiles::{Corner, TileFault};
 use mesh_check::Verdict;
 use mosaic::MosaicFault;
@@ -49,6 +50,8 @@ pub(crate) enum Fault<'a> {
     },
     /// The mesh of the file isn't watertight, or the file is no frame.
     Mesh(Verdict),
+    /// The file is no script.
+    Script(ScriptFault),
 }
 
 // The line of a file of that name that can't be had.
@@ -91,6 +94,17 @@ fn mosaic_line(alloc: Global, fault: MosaicFault) -> Result<String, AllocError>
     }
 }
 
+// The line of a file that is no script. Want of memory is no refusal and has no line.
+fn script_line(alloc: Global, fault: ScriptFault) -> Result<String, AllocError>
+    ensures line { IfOk result (λ line. string_bytes line ≡ script_line fault) }
+{
+    match fault {
+        ScriptFault::TooMany { lines } => format!(in alloc; "fault: TooMany {lines}\n"),
+        ScriptFault::BadLine { line } => format!(in alloc; "fault: BadLine {line}\n"),
+        ScriptFault::NoMemory => Ok(String::new(alloc)),
+    }
+}
+
 /// The line that tells a user of the fault.
 pub(crate) fn fault_line(alloc: Global, fault: Fault<'_>) -> Result<String, AllocError>
     ensures line { IfOk result (λ line. string_bytes line ≡ cause_line (cause_of fault.entry)) }
@@ -106,5 +120,6 @@ pub(crate) fn fault_line(alloc: Global, fault: Fault<'_>) -> Result<String, Allo
             format!(in alloc; "fault: LevelsDiffer {stored} {asked}\n")
         }
         Fault::Mesh(verdict) => verdict_line(alloc, verdict),
+        Fault::Script(fault) => script_line(alloc, fault),
     }
 }

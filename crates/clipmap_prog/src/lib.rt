@@ -8,12 +8,16 @@ mod course;
 mod draw;
 mod fault;
 mod frame;
+mod grounds;
 mod info;
 mod inputs;
 #[cfg(test)]
 mod level_tests;
 mod output;
 mod pack;
+mod play;
+#[cfg(test)]
+mod play_tests;
 mod program;
 mod reading;
 mod run;
@@ -31,6 +35,7 @@ mod top;
 mod verdicts;
 
 pub use check::TEXT_LIMIT;
+pub use play::SCRIPT_LIMIT;
 pub use program::{Ended, run_main, run_program};
 pub use run_actions::Halt;
 pub use store_file::STORE_LIMIT;

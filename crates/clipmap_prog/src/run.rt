@@ -10,14 +10,17 @@ use crate::check::run_check;
 use crate::frame::run_frame;
 use crate::info::run_info;
 use crate::pack::{run_pack, run_pack_by};
+use crate::play::run_play;
 use clipmap_words::Command;
 use outer_shelf::{Shelf, Sink};
 use run_actions::Halt;
 use std::alloc::Global;
+use std::thread::Threads;
 
 /// Runs a command. `Ok` is the status: 0 where it is done, and 2 where it is refused and the line of its
 /// fault is written.
-pub(crate) fn run<S: Shelf, K: Sink>(
+pub(crate) fn run<R: Threads + Sync, S: Shelf, K: Sink>(
+    rt: &R,
     alloc: Global,
     command: &Command<'_>,
     shelf: &mut S,
@@ -36,5 +39,6 @@ pub(crate) fn run<S: Shelf, K: Sink>(
         Command::Info(info) => run_info(alloc, info, shelf, out),
         Command::Pack(pack) => run_pack(alloc, pack, shelf, out),
         Command::PackBy(pack) => run_pack_by(alloc, pack, shelf, out),
+        Command::Play(play) => run_play(rt, alloc, play, shelf, out),
     }
 }

@@ -264,7 +264,7 @@ fn faulty_words(rt: HostRuntime) {
         (0, "Frame"),
         (0, "frames"),
         (0, "frame "),
-        (0, "play"),
+        (0, "fly"),
         (0, "fly"),
         (0, "swarm"),
         (0, "check"),

@@ -55,12 +55,12 @@ pub fn clipmap<R: Threads + Sync, S: Shelf, K: Sink>(
     ensures sink_calls_where_told { OfOutcome (map string_bytes words.now) (S.told shelf.old)
         (λ outcome. SinkCallsWithin outcome (S.told shelf.old) (K.told out.old) (K.told out.new)) }
 {
-    let _ = rt;
-    status(run_words(alloc, words, shelf, out))
+    status(run_words(rt, alloc, words, shelf, out))
 }
 
 // Runs the words. `Ok` is the status.
-fn run_words<S: Shelf, K: Sink>(
+fn run_words<R: Threads + Sync, S: Shelf, K: Sink>(
+    rt: &R,
     alloc: Global,
     words: &[String],
     shelf: &mut S,
@@ -76,7 +76,7 @@ fn run_words<S: Shelf, K: Sink>(
     ensures reason { HadReason result (S.told shelf.old) (S.told shelf.new) (K.told out.old) (K.told out.new) }
 {
     match read_words(words) {
-        Some(command) => run(alloc, &command, shelf, out),
+        Some(command) => run(rt, alloc, &command, shelf, out),
         None => ended(1, write_fault(alloc, out, Fault::Words)),
     }
 }

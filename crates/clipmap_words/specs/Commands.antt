@@ -7,6 +7,7 @@ use Rattle.clipmap_words.specs.Frame.{FrameView, IsFrameInRange, frame_of, frame
 use Rattle.clipmap_words.specs.Info.{InfoView, IsInfoInRange, info_of, info_view}
 use Rattle.clipmap_words.specs.Pack.{PackView, IsPackInRange, pack_of, pack_view}
 use Rattle.clipmap_words.specs.PackBy.{PackByView, IsPackByInRange, pack_by_of, pack_by_view}
+use Rattle.clipmap_words.specs.Play.{PlayView, IsPlayInRange, play_of, play_view}
 use Rattle.clipmap_words.specs.declared.command.Command.{Command}
 use Rattle.clipmap_words.specs.declared.command.Command.TheVariants as command
 
@@ -17,6 +18,7 @@ pub data CommandView : Type 0 where
   Info : InfoView → CommandView
   Pack : PackView → CommandView
   PackBy : PackByView → CommandView
+  Play : PlayView → CommandView
 
 -- the command of a name, with these words
 abbrev pub command_named : List ℕ → List (List ℕ) → Option CommandView
@@ -26,6 +28,7 @@ command_named name words =
     else if bytes_eq name (codes "info") then option_map Info (info_of words)
     else if bytes_eq name (codes "pack") then option_map Pack (pack_of words)
     else if bytes_eq name (codes "packq") then option_map PackBy (pack_by_of words)
+    else if bytes_eq name (codes "play") then option_map Play (play_of words)
     else None
 
 -- the command that the words are: the first names it, and the others are its own
@@ -40,6 +43,7 @@ view_of (command.Frame frame) = Frame (frame_view frame)
 view_of (command.Info info) = Info (info_view info)
 view_of (command.Pack pack) = Pack (pack_view pack)
 view_of (command.PackBy pack) = PackBy (pack_by_view pack)
+view_of (command.Play play) = Play (play_view play)
 
 -- the numbers of a command are in range. A `check` has none
 abbrev pub IsInRange : CommandView → Type 0
@@ -48,3 +52,4 @@ IsInRange (Frame frame) = IsFrameInRange frame
 IsInRange (Info info) = IsInfoInRange info
 IsInRange (Pack pack) = IsPackInRange pack
 IsInRange (PackBy pack) = IsPackByInRange pack
+IsInRange (Play play) = IsPlayInRange play

@@ -6,3 +6,4 @@ pub mod Names
 pub mod Numbers
 pub mod Pack
 pub mod PackBy
+pub mod Play

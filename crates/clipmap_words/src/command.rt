@@ -8,6 +8,7 @@ use crate::frame::{FrameWords, read_frame};
 use crate::info::{InfoWords, read_info};
 use crate::pack::{PackWords, read_pack};
 use crate::pack_by::{PackByWords, read_pack_by};
+use crate::play::{PlayWords, read_play};
 
 /// A command, as its words give it.
 #[derive(Clone, Copy)]
@@ -22,6 +23,8 @@ pub enum Command<'a> {
     Pack(PackWords<'a>),
     /// Tiles or a store to a store by a step: `packq L Q OUT INPUT+`.
     PackBy(PackByWords<'a>),
+    /// A script's steps over tiles or a store: `play SCRIPT OUT INPUT+`.
+    Play(PlayWords<'a>),
 }
 
 /// The command that the words are: those after the program's name. `None` exactly where they are no command.
@@ -46,6 +49,9 @@ pub fn read_words<'a>(words: &'a [String]) -> Option<Command<'a>>
     }
     if name.as_str() == "packq" {
         return read_pack_by(words).map(Command::PackBy);
+    }
+    if name.as_str() == "play" {
+        return read_play(words).map(Command::Play);
     }
     None
 }

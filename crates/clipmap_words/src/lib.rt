@@ -12,6 +12,7 @@ mod names;
 mod numbers;
 mod pack;
 mod pack_by;
+mod play;
 #[cfg(test)]
 mod tests;
 
@@ -23,3 +24,4 @@ pub use names::{INPUTS_LIMIT, NAME_LIMIT, is_store_name};
 pub use numbers::VIEWER_LIMIT;
 pub use pack::PackWords;
 pub use pack_by::PackByWords;
+pub use play::PlayWords;

@@ -53,6 +53,14 @@ fn told(alloc: Global, words: &[&str]) -> Result<String, Fail> {
                 pack.inputs.len()
             )
         }
+        Some(Command::Play(play)) => {
+            format!(in alloc;
+                "play {} {} of {}",
+                play.script,
+                play.out,
+                play.inputs.len()
+            )
+        }
         Some(Command::Check(check)) => format!(in alloc; "check {}", check.file),
         Some(Command::Frame(_)) => format!(in alloc; "frame"),
         None => format!(in alloc; "none"),
@@ -62,7 +70,13 @@ fn told(alloc: Global, words: &[&str]) -> Result<String, Fail> {
 
 #[test]
 fn reads_the_other_commands(rt: HostRuntime) -> Result<(), Fail> {
-    let table: [(&[&str], &str); 22] = [
+    let table: [(&[&str], &str); 28] = [
+        (&["play", "s", "o", "a.hgt", "b"], "play s o of 2"),
+        (&["play", "s", "o", "a.gct"], "play s o of 1"),
+        (&["play", "s", "o"], "none"),
+        (&["play", "s"], "none"),
+        (&["play", "", "o", "a"], "none"),
+        (&["play", "s", "", "a"], "none"),
         (&["check", "o.obj"], "check o.obj"),
         (&["check"], "none"),
         (&["check", ""], "none"),

@@ -3,7 +3,7 @@ use Rattle.std.proofs.Common.{◌≡◌, ap, ◌∙◌, length, w32, rules, SFit
 use Rattle.std.proofs.lemmas.Int.{to_z-of_z}
 use Rattle.mesh_model.specs.Mesh.{MeshLists, mesh}
 use Rattle.mesh_model.specs.Text.{frame_text}
-use Rattle.grid_frames.specs.Whole.{whole_regions, whole_mesh}
+use Rattle.grid_frames.specs.Whole.{whole_mesh}
 use Rattle.clipmap_prog.specs.WholeFrame.{told_line, whole_text, whole_line}
 use Rattle.clipmap_prog.proofs.draw.draw.Goals as goal
 

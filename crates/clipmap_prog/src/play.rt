@@ -1,0 +1,145 @@
+//! The command `play`.
+ghost use Rattle.std.specs.Prelude.{◌≡◌, ◌≤◌, ◌⊎◌, IfOk, IfSome, length, option_map};
+ghost use Rattle.std.specs.FinMap as finite;
+ghost use Rattle.outer_shelf.specs.Counts.{Rose, one_more};
+ghost use Rattle.terrain_store.specs.Stores.{land_of};
+ghost use Rattle.clip_script.specs.Ranges.{AreSizes};
+ghost use Rattle.clip_script.specs.Scripts.{play_of, play_view as script_view};
+ghost use Rattle.clip_runs.specs.Courses.{IsPlayInRange as IsScriptInRange};
+ghost use Rattle.clipmap_words.specs.Play.{IsPlayInRange, play_view};
+ghost use Rattle.clipmap_prog.specs.Play.{play_outcome, play_reading, script_of_file, scripted, stage_actions, stage_view};
+ghost use Rattle.clipmap_prog.specs.Promise.{Runs};
+ghost use Rattle.clipmap_prog.specs.Reading.{Finds, OnStop};
+ghost use Rattle.run_actions.specs.Runs.{CallsWithin, HadReason, Ran};
+ghost use Rattle.clipmap_prog.specs.Stores.{ByVerdict, Verdict};
+
+use crate::fault::{Fault, FileFault};
+use crate::grounds::read_land;
+use crate::output::{ended, write_fault};
+use crate::reading::Stop;
+use clip_runs::{Course, ended_by, run_course};
+use clip_script::{PlayScript, ScriptFault, read_play};
+use clipmap_words::PlayWords;
+use outer_shelf::{Fetched, Shelf, Sink};
+use run_actions::Halt;
+use std::alloc::Global;
+use std::thread::Threads;
+use terrain_store::Store;
+
+/// The most bytes that a script may have.
+pub const SCRIPT_LIMIT: u64 = 33_554_432;
+
+// A script with the store that it is played over.
+#[derive(Drop)]
+pub(crate) struct Staged {
+    pub(crate) script: PlayScript,
+    pub(crate) store: Store,
+}
+
+// The script of the bytes of a file, if they are one.
+fn judge_script<'a>(alloc: Global, bytes: &[u8]) -> Result<PlayScript, Stop<'a>>
+    ensures found { Finds script_view result (scripted (play_of bytes.now)) }
+    ensures in_range { IfOk result (λ script. IsScriptInRange script.levels (script_view script)) }
+    ensures reason { OnStop result ⊥ }
+{
+    match read_play(alloc, bytes) {
+        Ok(script) => Ok(script),
+        Err(ScriptFault::NoMemory) => Err(Stop::Halted(Halt::NoMemory)),
+        Err(fault) => Err(Stop::Refused(Fault::Script(fault))),
+    }
+}
+
+// The script of the file of that name, by one fetch.
+fn fetch_script<'a, S: Shelf>(
+    alloc: Global,
+    shelf: &mut S,
+    name: &'a str,
+) -> Result<PlayScript, Stop<'a>>
+    ensures found { IfSome (S.told shelf.old).files (λ files. Finds script_view result
+        (script_of_file name.now (finite.get files name.now))) }
+    ensures in_range { IfOk result (λ script. IsScriptInRange script.levels (script_view script)) }
+    ensures counted { (S.told shelf.new).calls ≡ option_map one_more (S.told shelf.old).calls }
+    ensures reason { OnStop result (Rose (S.told shelf.old).faults (S.told shelf.new).faults) }
+    ensures files_stay { (S.told shelf.new).files ≡ (S.told shelf.old).files }
+    ensures faults_stay { (S.told shelf.old).faults ≤ (S.told shelf.new).faults }
+{
+    match shelf.fetch(alloc, name, SCRIPT_LIMIT) {
+        Fetched::Found(bytes) => judge_script(alloc, bytes.as_slice()),
+        Fetched::Absent => Err(Stop::Refused(Fault::File(name, FileFault::Absent))),
+        Fetched::TooLong { length, limit } => {
+            let fault = FileFault::TooLong { length, limit };
+            Err(Stop::Refused(Fault::File(name, fault)))
+        }
+        Fetched::Failed => Err(Stop::Halted(Halt::ShelfFailed)),
+        Fetched::NoMemory => Err(Stop::Halted(Halt::NoMemory)),
+    }
+}
+
+// The script of a `play`, and then its inputs.
+fn stage<'a, S: Shelf>(
+    alloc: Global,
+    shelf: &mut S,
+    play: &PlayWords<'a>,
+) -> Result<Staged, Stop<'a>>
+    requires few_inputs { length play.now.inputs.now ≤ 64 }
+    ensures found { ByVerdict (play_view play.now).inputs (S.told shelf.old).files
+        (λ verdict. IfSome (S.told shelf.old).files (λ files. Finds stage_view result
+        (play_reading verdict (play_view play.now) files).found)) }
+    ensures calls { (verdict : Verdict) → IfSome (S.told shelf.old).files
+        (λ files. CallsWithin (play_reading verdict (play_view play.now) files).fetches
+        (S.told shelf.old).calls (S.told shelf.new).calls) }
+    ensures in_range { IfOk result (λ staged.
+        IsScriptInRange (land_of staged.store).levels (script_view staged.script)) }
+    ensures reason { OnStop result (Rose (S.told shelf.old).faults (S.told shelf.new).faults) }
+    ensures files_stay { (S.told shelf.new).files ≡ (S.told shelf.old).files }
+    ensures faults_stay { (S.told shelf.old).faults ≤ (S.told shelf.new).faults }
+{
+    match fetch_script(alloc, shelf, play.script) {
+        Ok(script) => match read_land(alloc, shelf, play.inputs, script.levels) {
+            Ok(store) => Ok(Staged { script, store }),
+            Err(stop) => Err(stop),
+        },
+        Err(stop) => Err(stop),
+    }
+}
+
+// Plays a script over a store, under a name.
+fn play_staged<R: Threads + Sync, S: Shelf, K: Sink>(
+    rt: &R,
+    alloc: Global,
+    staged: &Staged,
+    name: &str,
+    shelf: &mut S,
+    out: &mut K,
+) -> Result<(), Halt>
+    requires in_range { IsScriptInRange (land_of staged.now.store).levels (script_view staged.now.script) }
+    ensures ran { Ran S.leaves 0 (stage_actions name.now (stage_view staged.now)) result
+        (S.told shelf.old) (S.told shelf.new) (K.told out.old) (K.told out.new) }
+    ensures reason { HadReason result (S.told shelf.old) (S.told shelf.new) (K.told out.old) (K.told out.new) }
+{
+    let course = Course::Play(&staged.script);
+    ended_by(run_course(rt, alloc, &staged.store, &course, name, shelf, out))
+}
+
+/// Runs a `play`. `Ok` is the status: 0 where it is done, and 2 where it is refused and the line of its
+/// fault is written.
+pub(crate) fn run_play<R: Threads + Sync, S: Shelf, K: Sink>(
+    rt: &R,
+    alloc: Global,
+    play: &PlayWords<'_>,
+    shelf: &mut S,
+    out: &mut K,
+) -> Result<u8, Halt>
+    requires in_range { IsPlayInRange (play_view play.now) }
+    ensures runs { ByVerdict (play_view play.now).inputs (S.told shelf.old).files
+        (λ verdict. Runs S.leaves (play_outcome verdict (play_view play.now)) result
+        (S.told shelf.old) (S.told shelf.new) (K.told out.old) (K.told out.new)) }
+    ensures status { IfOk result (λ status. (status ≡ 0) ⊎ (status ≡ 2)) }
+    ensures reason { HadReason result (S.told shelf.old) (S.told shelf.new) (K.told out.old) (K.told out.new) }
+{
+    match stage(alloc, shelf, play) {
+        Ok(staged) => ended(0, play_staged(rt, alloc, &staged, play.out, shelf, out)),
+        Err(Stop::Refused(fault)) => ended(2, write_fault(alloc, out, fault)),
+        Err(Stop::Halted(halt)) => Err(halt),
+    }
+}
