@@ -1,7 +1,7 @@
 //! A pass: a seat of a clip, with its number.
 
-ghost use Rattle.std.specs.Prelude.{◌≡◌};
-ghost use Rattle.gate_rule.specs.Flags.{how_many};
+ghost use Rattle.std.specs.Prelude.{◌≡◌, true};
+ghost use Rattle.gate_rule.specs.Flags.{flag, how_many};
 ghost use Rattle.clip_gate.specs.Passes.{is_free};
 
 use crate::flags;
@@ -31,9 +31,10 @@ impl Model for Pass {
 }
 
 impl Pass {
-    /// The pass's number, 0 to 15.
+    /// The pass's number, 0 to 15, which is among its numbers.
     pub fn number(&self) -> u8
-        ensures { result ≡ self.now.number }
+        ensures value { result ≡ self.now.number }
+        ensures own { flag self.now.numbers self.now.number ≡ true }
     {
         self.number
     }
