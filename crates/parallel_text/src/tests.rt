@@ -11,8 +11,8 @@ use std::test::Fail;
 // A hilly terrain of 101 × 101 samples.
 fn hills(rt: &HostRuntime) -> Result<Grid, Fail> {
     let mut heights = Vec::new(rt.alloc());
-    for place in 0..10201i32 {
-        heights.push((place % 101 * 7 - place / 101 * 5) as i16)?;
+    for place in 0..10201u32 {
+        heights.push((place % 101 * 7) as i16 - 350)?;
     }
     let mut whole = heights;
     whole.resize(10201, 0)?;
