@@ -29,8 +29,9 @@ pub record IsWide (r : Region) : Type 0 where
 abbrev pub IsWideOrEmpty : Region → Type 0
 IsWideOrEmpty r = (r ≡ empty_region) ⊎ IsWide r
 
--- for K the regions are those of 1 to 12 levels: each is empty or lies with even corners in a window of its own level, no
--- corner of it is farther from zero than 2^24, its sides are 2 or more, and each finer one lies a margin inside the next
+-- for K the regions are those of 1 to 12 levels: each is empty or lies with even corners in a window of its own level,
+-- no corner of it is farther from zero than 2^24, its sides are 2 or more, and each finer one lies a margin inside the
+-- next
 pub record AreDrawn (k : ℕ) (regions : List Region) : Type 0 where
   pub many : IsLevelCount (length regions)
   pub shown : AreShown k regions

@@ -24,7 +24,8 @@ pub record HasHeight (terrain : Terrain) (st : State) (cells : Cells) (level : �
   pub home : (heights : List ℤ) → cells.home level (tile_of_cell st.k i j) ≡ Some heights →
       tile_height heights i j ≡ level_height terrain level i j
   pub out : (p : ℕ) (job : JobNote) → HasJob st p job → job.level ≡ level →
-      tile_of_piece st job.piece ≡ tile_of_cell st.k i j → tile_height (cells.handed p) i j ≡ level_height terrain level i j
+      tile_of_piece st job.piece ≡ tile_of_cell st.k i j →
+      tile_height (cells.handed p) i j ≡ level_height terrain level i j
 
 -- what is true of the heights between any two events
 pub record HasCells (terrain : Terrain) (st : State) (cells : Cells) : Type 0 where

@@ -30,8 +30,8 @@ pub record Does (p : ℕ) (event : Event) (answer : Answer) (old new : PlanView)
   pub answered : (step old.state p event).answer ≡ answer
   pub moves : new.moves ≡ old.moves + adds event
 
--- what is true of the plan of every book: it is sound, each level's slots are those of its current strip, no plan number
--- is above the number of moves, and there are no more moves and frames than a book may have
+-- what is true of the plan of every book: it is sound, each level's slots are those of its current strip, no plan
+-- number is above the number of moves, and there are no more moves and frames than a book may have
 pub record IsBook (d : Desk) (moves : ℕ) : Type 0 where
   pub sound : IsReady (state_of d)
   pub slots : HaveSlots d

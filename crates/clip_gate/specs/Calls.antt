@@ -39,8 +39,8 @@ pub record IsSamePass (old new : PassView) : Type 0 where
 abbrev pub KeepsHeights : PassView → PassView → Type 0
 KeepsHeights old new = (note : JobNote) → HasJob (state_of old) old.number note → new.heights ≡ old.heights
 
--- the pass has made an event: others made some entries, none of the pass's numbers; then as many places as the call asks
--- for were free; and then comes the event with its answer, in a legal history
+-- the pass has made an event: others made some entries, none of the pass's numbers; then as many places as the call
+-- asks for were free; and then comes the event with its answer, in a legal history
 pub record HasMade (event : Event) (answer : Answer) (asked : ℕ) (old new : PassView) : Type 0 where
   pub before : List Entry
   pub waited : GoesOn old.numbers old.history before
@@ -67,8 +67,8 @@ abbrev pub places_to_end : Option OpenFrame → ℕ
 places_to_end None = 1
 places_to_end (Some frame) = 0
 
--- a job is the one that the pass has of its clip: it names the clip's terrain, is the job of the pass in its history, and
--- its tile has the pass's heights
+-- a job is the one that the pass has of its clip: it names the clip's terrain, is the job of the pass in its history,
+-- and its tile has the pass's heights
 pub record IsJobOfPass (pass : PassView) (job : JobView) : Type 0 where
   pub land : job.land ≡ pass.clip.land
   pub note : HasJob (state_of pass) pass.number job.note
@@ -91,8 +91,8 @@ pub record IsFilledOfPass (pass : PassView) (job : FilledView) : Type 0 where
   pub note : HasJob (state_of pass) pass.number job.note
   pub painted : IsPainted pass.clip.land.terrain job.note.level job.note.piece.cells pass.heights job.tile
 
--- a pass is split: the least number that it had left to give is a new pass's, free, with the same history, in which it has
--- no entry
+-- a pass is split: the least number that it had left to give is a new pass's, free, with the same history, in which it
+-- has no entry
 pub record IsSplit (old kept given : PassView) : Type 0 where
   pub had : flag old.left (least old.left) ≡ true
   pub number : given.number ≡ least old.left

@@ -19,14 +19,15 @@ use plan_laws::actives_are_as_many;
 use std::sync::Wait;
 
 impl Clip {
-    /// Replaces `out` by the heights of a level in the pass's frame, in metres: those of the cells of its active region,
-    /// row by row. It takes no memory, and makes no entry.
+    /// Replaces `out` by the heights of a level in the pass's frame, in metres: those of the cells of its active
+    /// region, row by row. It takes no memory, and makes no entry.
     pub fn read_level(&self, rt: &impl Wait, pass: &mut Pass, level: u8, out: &mut Vec<i16>)
         requires clip { pass.old.clip ≡ self.now }
         requires level { level < self.now.land.levels }
         requires frame { IsSome (frame_of (part_of pass.old)) }
         requires room { area (shown_by pass.old level) ≤ vec_capacity out.old }
-        ensures heights { out.new.items ≡ map (λ c. level_height self.now.land.terrain level c.0 c.1) (cells (shown_by pass.old level)) }
+        ensures heights { out.new.items ≡
+            map (λ c. level_height self.now.land.terrain level c.0 c.1) (cells (shown_by pass.old level)) }
         ensures waited { HasWaited pass.old pass.new }
     {
         actives_are_as_many();

@@ -1,4 +1,5 @@
--- A region is a rectangle of cells: those from column x0 to column x1 and from row y0 to row y1, all four included. It stands for its set of cells.
+-- A region is a rectangle of cells: those from column x0 to column x1 and from row y0 to row y1, all four included.
+-- It stands for its set of cells.
 use Rattle.std.specs.Prelude.{◌≡◌, ℕ, ◌*◌, ◌^◌, Bool, ◌&&◌, ◌||◌, ℤ, pos, negsuc, neg_ℤ, ◌+ℤ◌, ◌-ℤ◌, ◌*ℤ◌, ◌≤ℤ◌, int_lt, int_le, List, map, flat_map, if◌then◌else◌}
 use Rattle.std.specs.List.{range_with_len}
 use Rattle.std.specs.Int.{int_min, int_max, int_gap}

@@ -36,7 +36,8 @@ pack_by_with levels step out inputs =
 -- the words after `packq`, where they are well spelled and in range
 unfoldable pub pack_by_of : List (List ℕ) → Option PackByView
 pack_by_of (levels ∷ step ∷ out ∷ inputs) =
-    option_and_then (λ levels. option_and_then (λ step. pack_by_with levels step out inputs) (step_of step)) (natural_of 1 12 levels)
+    option_and_then (λ levels. option_and_then (λ step. pack_by_with levels step out inputs) (step_of step))
+    (natural_of 1 12 levels)
 pack_by_of _ = None
 
 -- the words of a `packq`, as their numbers, names and inputs

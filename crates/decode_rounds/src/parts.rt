@@ -48,7 +48,8 @@ fn part_for(
     task: &Task,
     most: usize,
 ) -> Result<Part, AllocError>
-    ensures { IfOk result (λ part. flat_map tasks_in parts.new.items ++ part.tasks.items ≡ flat_map tasks_in parts.old.items) }
+    ensures { IfOk result (λ part.
+        flat_map tasks_in parts.new.items ++ part.tasks.items ≡ flat_map tasks_in parts.old.items) }
 {
     if let Some(part) = parts.pop() {
         if goes_into(&part, task, most) {

@@ -25,9 +25,11 @@ smooth seed x y =
     let row = y / 48 in
     between (y % 48)
     (between (x % 48) (lattice_height seed column row) (lattice_height seed (next_line column) row))
-    (between (x % 48) (lattice_height seed column (next_line row)) (lattice_height seed (next_line column) (next_line row)))
+    (between (x % 48) (lattice_height seed column (next_line row))
+    (lattice_height seed (next_line column) (next_line row)))
 
--- the height of a sample, in metres: the lattice's, rounded down, and a roughness of −3 to 3; samples are counted row by row
+-- the height of a sample, in metres: the lattice's, rounded down, and a roughness of −3 to 3; samples are counted row
+-- by row
 unfoldable pub sample : ℕ → ℕ → ℤ
 sample seed place =
     pos (smooth seed (place % 1201) (place / 1201) / 2304 + draw seed (676 + place) 7) -ℤ pos 503

@@ -1,7 +1,7 @@
 //! The demo: a terrain and a flight over it, made from one number.
 //!
-//! All of it is drawn from one linear congruential generator with the multiplier and the increment of Knuth's MMIX: first a
-//! lattice of heights, then the roughness of each sample, then the moves of the flight.
+//! All of it is drawn from one linear congruential generator with the multiplier and the increment of Knuth's MMIX:
+//! first a lattice of heights, then the roughness of each sample, then the moves of the flight.
 #![tactic(auto)]
 
 mod demo;

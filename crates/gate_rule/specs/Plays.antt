@@ -44,8 +44,8 @@ pub record Drawn (before : Sat) (found : ℕ) (after : Sat) : Type 0 where
   pub word : found ≡ ticket % 2 ^ 64
   pub seat : after ≡ (with_ticket before.0 ticket, before.1)
 
--- what is true of a clip's history for a pass of it: it is legal, fits in the journal, has no entry of a number that the
--- pass has left to give, and leaves no part to its numbers but its own
+-- what is true of a clip's history for a pass of it: it is legal, fits in the journal, has no entry of a number that
+-- the pass has left to give, and leaves no part to its numbers but its own
 pub record IsHistory (v : View) (log : List Entry) : Type 0 where
   pub low : v.own < 16
   pub mine : flag v.numbers v.own ≡ true

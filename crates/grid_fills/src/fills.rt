@@ -90,7 +90,8 @@ fn write_row(grid: &Grid, level: u8, cells: BlockCells, row: u32, out: &mut [i16
 fn heights_on(grid: &Grid, level: u8, cells: BlockCells) -> [i16; 64]
     requires { level ≤ 11 }
     ensures many { length result ≡ 64 }
-    ensures heights { StandByPlaces (level_height grid.now level) cells.cells (take (cells.across * cells.down) result) }
+    ensures heights { StandByPlaces (level_height grid.now level) cells.cells
+        (take (cells.across * cells.down) result) }
 {
     let mut out = [0i16; 64];
     for row in 0..cells.down {

@@ -44,9 +44,17 @@ impl Model for HgtTile {
 
     ghost Value = { TileView };
 
-    ghost view = { λ t. record { corner = t.corner; terrain = record { width = t.side; height = t.side; table = t.heights.items }; voids = t.voids } };
+    ghost view = { λ t. record {
+      corner = t.corner;
+      terrain = record { width = t.side; height = t.side; table = t.heights.items };
+      voids = t.voids;
+    } };
 
-    ghost invariant = { λ t. IsRead (record { corner = t.corner; terrain = record { width = t.side; height = t.side; table = t.heights.items }; voids = t.voids }) };
+    ghost invariant = { λ t. IsRead (record {
+      corner = t.corner;
+      terrain = record { width = t.side; height = t.side; table = t.heights.items };
+      voids = t.voids;
+    }) };
 }
 
 impl HgtTile {
@@ -89,7 +97,8 @@ impl HgtTile {
     /// The heights in metres of row `y` from the north, from west to east.
     pub fn row(&self, y: u32) -> &[i16]
         requires { y < self.now.terrain.height }
-        ensures value { result.now ≡ slice_range self.now.terrain.table (y * self.now.terrain.width) ((y + 1) * self.now.terrain.width) }
+        ensures value { result.now ≡
+            slice_range self.now.terrain.table (y * self.now.terrain.width) ((y + 1) * self.now.terrain.width) }
         ensures length { length result.now ≡ self.now.terrain.width }
     {
         let first = y as usize * self.side as usize;
@@ -121,7 +130,8 @@ struct Samples {
 pub fn read_tile(alloc: Global, corner: Corner, bytes: &[u8]) -> Result<HgtTile, TileFault>
     ensures tile { IfOk result (λ tile. tile_of_bytes corner bytes.now ≡ Some tile) }
     ensures square { IfOk result (λ tile. IsTile tile.terrain) }
-    ensures bad_length { side_of_length (length bytes.now) ≡ None → result ≡ Err (TileFault.BadLength (length bytes.now)) }
+    ensures bad_length { side_of_length (length bytes.now) ≡ None →
+        result ≡ Err (TileFault.BadLength (length bytes.now)) }
     ensures fault { IfErr result (HasCause bytes.now) }
 {
     let length = bytes.len() as u64;
@@ -182,7 +192,8 @@ fn append_row(
     requires whole { 2 * (first + side) ≤ length bytes.now }
     requires row { length row.old ≡ side }
     ensures row { length row.new ≡ side }
-    ensures heights { OnOk result (heights.new.items ≡ heights.old.items ++ without_voids (samples_from bytes.now first side)) }
+    ensures heights { OnOk result
+        (heights.new.items ≡ heights.old.items ++ without_voids (samples_from bytes.now first side)) }
     ensures voids { IfOk result (λ voids. voids ≡ count_by is_void (samples_from bytes.now first side)) }
     ensures few { IfOk result (λ voids. voids ≤ side) }
 {
@@ -219,7 +230,8 @@ fn append_filled(
 ) -> Result<u64, AllocError>
     requires side { side ≤ 3601 }
     requires whole { 2 * (first + side) ≤ length bytes.now }
-    ensures heights { OnOk result (heights.new.items ≡ heights.old.items ++ without_voids (samples_from bytes.now first side)) }
+    ensures heights { OnOk result
+        (heights.new.items ≡ heights.old.items ++ without_voids (samples_from bytes.now first side)) }
     ensures voids { IfOk result (λ voids. voids ≡ count_by is_void (samples_from bytes.now first side)) }
     ensures few { IfOk result (λ voids. voids ≤ side) }
 {

@@ -155,4 +155,5 @@ SquaresOnce =
 -- each part of the mesh of a frame's active regions has a triangle, so that its bounds are those of some vertices
 abbrev pub FilledParts : Type 0
 FilledParts =
-    (terrain : Terrain) (k : ℕ) (actives : List Region) → AreActive actives → All (λ part. 1 ≤ part.count) (mesh terrain k actives).parts
+    (terrain : Terrain) (k : ℕ) (actives : List Region) → AreActive actives
+    → All (λ part. 1 ≤ part.count) (mesh terrain k actives).parts

@@ -38,7 +38,8 @@ abbrev pub BoundsHold : List Vertex → List (List ℕ) → List Part → Type 0
 BoundsHold vertices triangles parts =
     All (λ part. HoldsVertices vertices part.bounds (triangles_of_part triangles part)) parts
 
--- the lists make a mesh: they are of lengths that the text's numbers hold, the triangles name vertices, and the parts cover the triangles within their bounds
+-- the lists make a mesh: they are of lengths that the text's numbers hold, the triangles name vertices, and the parts
+-- cover the triangles within their bounds
 pub record IsMesh (lists : MeshLists) : Type 0 where
   pub few_vertices : length lists.vertices < 2 ^ 31
   pub few_triangles : length lists.triangles < 2 ^ 31

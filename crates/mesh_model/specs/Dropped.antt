@@ -43,7 +43,8 @@ mean (first ∷ others) =
 -- 32 times a x + b h + c z + d at such a point, times its weight: it is negative outside the half-space
 unfoldable pub mixture_value : HalfSpace → Mixture → ℤ
 mixture_value space point =
-    pos 32 *ℤ (space.a *ℤ point.x) +ℤ space.b *ℤ point.height +ℤ pos 32 *ℤ (space.c *ℤ point.z) +ℤ pos 32 *ℤ (space.d *ℤ pos point.weight)
+    pos 32 *ℤ (space.a *ℤ point.x) +ℤ space.b *ℤ point.height +ℤ pos 32 *ℤ (space.c *ℤ point.z)
+    +ℤ pos 32 *ℤ (space.d *ℤ pos point.weight)
 
 -- the point lies outside no half-space of the view
 unfoldable pub is_in_view : List HalfSpace → Mixture → Bool
@@ -52,16 +53,23 @@ is_in_view view point = not (list_any (λ space. int_lt (mixture_value space poi
 -- all vertices of a part of a mesh that a view drops lie outside one and the same half-space of the view
 abbrev pub DroppedOutside : Type 0
 DroppedOutside =
-    (view : List HalfSpace) (lists : MeshLists) (part : Part) → IsMesh lists → Contains lists.parts part → is_kept view part ≡ false →
-    (space : HalfSpace) × Contains view space × All (λ vertex. is_vertex_outside space vertex ≡ true) (part_vertices lists part)
+    (view : List HalfSpace) (lists : MeshLists) (part : Part) → IsMesh lists → Contains lists.parts part →
+    is_kept view part ≡ false →
+    (space : HalfSpace)
+    × Contains view space
+    × All (λ vertex. is_vertex_outside space vertex ≡ true) (part_vertices lists part)
 
 -- so no point of its triangles, which are weighted means of its vertices, lies in the view
 abbrev pub DroppedUnseen : Type 0
 DroppedUnseen =
-    (view : List HalfSpace) (lists : MeshLists) (part : Part) → IsMesh lists → Contains lists.parts part → is_kept view part ≡ false →
-    (corners : List Weighted) → All (λ corner. Contains (part_vertices lists part) corner.vertex) corners → 0 < (mean corners).weight →
+    (view : List HalfSpace) (lists : MeshLists) (part : Part) → IsMesh lists → Contains lists.parts part →
+    is_kept view part ≡ false →
+    (corners : List Weighted) → All (λ corner. Contains (part_vertices lists part) corner.vertex) corners →
+    0 < (mean corners).weight →
     is_in_view view (mean corners) ≡ false
 
 -- flags that say of each part whether a view keeps it pick the parts that the view keeps
 abbrev pub FlagsKeep : Type 0
-FlagsKeep = (view : List HalfSpace) (parts : List Part) → flagged_parts (map (is_kept view) parts) parts ≡ kept_parts view parts
+FlagsKeep =
+    (view : List HalfSpace) (parts : List Part) →
+    flagged_parts (map (is_kept view) parts) parts ≡ kept_parts view parts

@@ -1,4 +1,5 @@
--- The height of a vertex, in thirty-seconds of a metre: its level height, blended towards the next coarser level near the border of its active region.
+-- The height of a vertex, in thirty-seconds of a metre: its level height, blended towards the next coarser level near
+-- the border of its active region.
 use Rattle.std.specs.Prelude.{ℕ, ◌+◌, ◌/◌, Bool, ◌==◌, ℤ, pos, ◌+ℤ◌, ◌-ℤ◌, ◌*ℤ◌, List, length, if◌then◌else◌, slice_index_or}
 use Rattle.std.specs.Int.{int_min, int_max}
 use Rattle.clip_regions.specs.declared.region.Region.{Region}
@@ -11,12 +12,14 @@ use Rattle.terrain_model.specs.Terrain.{Terrain, level_height}
 unfoldable pub border_distance : Region → ℤ → ℤ → ℤ
 border_distance r i j = int_min (int_min (i -ℤ r.x0) (r.x1 -ℤ i)) (int_min (j -ℤ r.y0) (r.y1 -ℤ j))
 
--- how much of the blend width goes to the coarser level: all at the border, and nothing from the blend width on or at the coarsest level
+-- how much of the blend width goes to the coarser level: all at the border, and nothing from the blend width on or at
+-- the coarsest level
 unfoldable pub blend_share : ℕ → Bool → Region → ℤ → ℤ → ℤ
 blend_share k coarsest r i j =
     if coarsest then pos 0 else int_max (pos 0) (pos (blend_width k) -ℤ border_distance r i j)
 
--- the mean, weighted by those shares, of a cell's own height and of half the sum of two coarser heights; heights in metres give thirty-seconds
+-- the mean, weighted by those shares, of a cell's own height and of half the sum of two coarser heights; heights in
+-- metres give thirty-seconds
 unfoldable pub blended_height : ℕ → Bool → Region → ℤ → ℤ → ℤ → ℤ → ℤ → ℤ
 blended_height k coarsest r i j own a b =
     let w = blend_width k in

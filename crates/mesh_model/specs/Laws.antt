@@ -65,7 +65,8 @@ OneLevelNames = (r : Region) → NameVertices (columns r * rows r) (one_level_tr
 abbrev pub BoxHolds : Type 0
 BoxHolds =
     (vertices : List Vertex) (triangles : List (List ℕ)) (part : Part) →
-    All (IsInside part.bounds) vertices → NameVertices (length vertices) triangles → BoundsHold vertices triangles (part ∷ [])
+    All (IsInside part.bounds) vertices → NameVertices (length vertices) triangles →
+    BoundsHold vertices triangles (part ∷ [])
 
 -- the parts of a mesh cover its triangles in order, without gaps
 abbrev pub PartsCover : Type 0
@@ -89,7 +90,8 @@ NestedNames =
 -- no two vertices of a mesh of nested regions stand at one position
 abbrev pub VerticesApart : Type 0
 VerticesApart =
-    (terrain : Terrain) (k e : ℕ) (actives : List Region) → AreNested e actives → AllPairs StandApart (mesh_vertices terrain k actives)
+    (terrain : Terrain) (k e : ℕ) (actives : List Region) → AreNested e actives →
+    AllPairs StandApart (mesh_vertices terrain k actives)
 
 -- where no two vertices of a list stand at one position, the place of each is where it stands in the list
 abbrev pub OwnPlaces : Type 0
@@ -113,7 +115,8 @@ NestedTriangleCount =
 abbrev pub DrawnNames : Type 0
 DrawnNames =
     (terrain : Terrain) (k finest : ℕ) (filled : List Region) → AllEvenOrEmpty filled →
-    NameVertices (length (mesh terrain k (actives k finest filled)).vertices) (mesh terrain k (actives k finest filled)).triangles
+    NameVertices (length (mesh terrain k (actives k finest filled)).vertices)
+    (mesh terrain k (actives k finest filled)).triangles
 
 -- no two vertices of the mesh of a plan's active regions stand at one position
 abbrev pub DrawnApart : Type 0

@@ -1,4 +1,5 @@
--- The mesh of nested active regions: when two vertices stand apart, and how many vertices, squares and stitches there are, level by level from the finest.
+-- The mesh of nested active regions: when two vertices stand apart, and how many vertices, squares and stitches there
+-- are, level by level from the finest.
 use Rattle.std.specs.Prelude.{◌≡◌, ℕ, ◌+◌, ◌-◌, ◌*◌, List, [], ◌∷◌, if◌then◌else◌}
 use Rattle.clip_regions.specs.declared.region.Region.{Region}
 use Rattle.clip_regions.specs.Regions.{is_empty, columns, rows, area}

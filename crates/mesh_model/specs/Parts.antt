@@ -17,7 +17,8 @@ pub record PartTriangles : Type 0 where
 unfoldable pub corner_place : List Vertex → ℕ → ℤ → ℤ → ℕ
 corner_place vertices level i j = place_of vertices (i *ℤ pos (2 ^ level)) (j *ℤ pos (2 ^ level))
 
--- the two triangles of the square whose north-west corner is (i, j): north-west, south-west, south-east, and north-west, south-east, north-east
+-- the two triangles of the square whose north-west corner is (i, j): north-west, south-west, south-east, and
+-- north-west, south-east, north-east
 unfoldable pub square_triangles : List Vertex → ℕ → ℤ → ℤ → List (List ℕ)
 square_triangles vertices level i j =
     let north_west = corner_place vertices level i j in
@@ -43,7 +44,8 @@ square_part vertices level kind squares =
       triangles = flat_map (λ cell. square_triangles vertices level cell.0 cell.1) (cells squares);
     }
 
--- the square parts of an active region: all its squares where it has no hole, else those north, west, east and south of the hole
+-- the square parts of an active region: all its squares where it has no hole, else those north, west, east and south of
+-- the hole
 unfoldable pub square_parts : List Vertex → ℕ → Region → Region → List PartTriangles
 square_parts vertices level finer active =
     let gap = hole finer in
@@ -108,4 +110,5 @@ all_stitch_parts vertices (active ∷ coarser) = stitch_parts_from vertices 0 ac
 
 -- the parts of a mesh in their order: the squares of each level, then the stitches of each level
 unfoldable pub parts_of_regions : List Vertex → List Region → List PartTriangles
-parts_of_regions vertices actives = square_parts_from vertices 0 empty_region actives ++ all_stitch_parts vertices actives
+parts_of_regions vertices actives =
+    square_parts_from vertices 0 empty_region actives ++ all_stitch_parts vertices actives

@@ -18,7 +18,8 @@ viewer_line x y = codes "# viewer " ++ signed_decimal x ++ codes " " ++ signed_d
 unfoldable pub region_text : Region → List ℕ
 region_text r =
     if is_empty r then codes " empty"
-    else codes " active " ++ signed_decimal r.x0 ++ codes " " ++ signed_decimal r.y0 ++ codes " " ++ signed_decimal r.x1 ++ codes " " ++ signed_decimal r.y1
+    else codes " active " ++ signed_decimal r.x0 ++ codes " " ++ signed_decimal r.y0
+    ++ codes " " ++ signed_decimal r.x1 ++ codes " " ++ signed_decimal r.y1
 
 -- `# level L` and its active region
 unfoldable pub level_line : ℕ → Region → List ℕ
@@ -48,14 +49,17 @@ height_text height =
 -- `v x h y`
 unfoldable pub vertex_line : Vertex → List ℕ
 vertex_line vertex =
-    codes "v " ++ signed_decimal vertex.x ++ codes " " ++ height_text vertex.height ++ codes " " ++ signed_decimal vertex.z ++ codes "\n"
+    codes "v " ++ signed_decimal vertex.x ++ codes " " ++ height_text vertex.height
+    ++ codes " " ++ signed_decimal vertex.z ++ codes "\n"
 
 -- `f a b c`, with the places of the three vertices counted from 1
 unfoldable pub triangle_line : List ℕ → List ℕ
 triangle_line triangle =
-    codes "f " ++ decimal (slice_index triangle 0 + 1) ++ codes " " ++ decimal (slice_index triangle 1 + 1) ++ codes " " ++ decimal (slice_index triangle 2 + 1) ++ codes "\n"
+    codes "f " ++ decimal (slice_index triangle 0 + 1) ++ codes " " ++ decimal (slice_index triangle 1 + 1)
+    ++ codes " " ++ decimal (slice_index triangle 2 + 1) ++ codes "\n"
 
--- the lines at the head of a frame's text: the frame's number, the viewer at its beginning, and the active region of each level
+-- the lines at the head of a frame's text: the frame's number, the viewer at its beginning, and the active region of
+-- each level
 unfoldable pub head_text : ℕ → ℤ → ℤ → List Region → List ℕ
 head_text number x y actives = frame_line number ++ viewer_line x y ++ level_lines 0 actives
 

@@ -1,4 +1,5 @@
--- What it means that the mesh of some active regions has no gap: heights agree where levels meet, stitches are flat, triangles share their edges, and squares cover each place once.
+-- What it means that the mesh of some active regions has no gap: heights agree where levels meet, stitches are flat,
+-- triangles share their edges, and squares cover each place once.
 use Rattle.std.specs.Prelude.{◌≡◌, ℕ, ◌+◌, ◌-◌, ◌^◌, ◌<◌, Bool, not, if◌then◌else◌, ◌&&◌, ◌||◌, ◌==◌, IsTrue, ℤ, pos, ◌+ℤ◌, ◌*ℤ◌, int_le, int_lt, List, [], ◌∷◌, length, filter, count_by, flat_map, All, slice_index}
 use Rattle.std.specs.Ordering.{int_eq}
 use Rattle.clip_regions.specs.declared.region.Region.{Region}
@@ -25,14 +26,16 @@ HeightsAgree terrain k actives =
 -- m stands in the middle between p and q, in position and in height
 unfoldable pub is_middle : Vertex → Vertex → Vertex → Bool
 is_middle p m q =
-    (int_eq (pos 2 *ℤ m.x) (p.x +ℤ q.x) && int_eq (pos 2 *ℤ m.z) (p.z +ℤ q.z)) && int_eq (pos 2 *ℤ m.height) (p.height +ℤ q.height)
+    (int_eq (pos 2 *ℤ m.x) (p.x +ℤ q.x) && int_eq (pos 2 *ℤ m.z) (p.z +ℤ q.z))
+    && int_eq (pos 2 *ℤ m.height) (p.height +ℤ q.height)
 
 -- the second vertex of each stitch stands in the middle between the first and the third
 abbrev pub StitchesAreFlat : Terrain → ℕ → List Region → Type 0
 StitchesAreFlat terrain k actives =
     let vertices = mesh_vertices terrain k actives in
     let at = vertex_of_place vertices in
-    All (λ stitch. IsTrue (is_middle (at (slice_index stitch 0)) (at (slice_index stitch 1)) (at (slice_index stitch 2))))
+    All
+    (λ stitch. IsTrue (is_middle (at (slice_index stitch 0)) (at (slice_index stitch 1)) (at (slice_index stitch 2))))
     (flat_map (λ part. part.triangles) (all_stitch_parts vertices actives))
 
 -- does the triangle go from a to b along one of its edges?
@@ -62,9 +65,11 @@ covered actives =
 unfoldable pub is_on_side : Region → Vertex → Vertex → Bool
 is_on_side r p q =
     let both = λ (a b side : ℤ). int_eq a side && int_eq b side in
-    (contains r p.x p.z && contains r q.x q.z) && ((both p.x q.x r.x0 || both p.x q.x r.x1) || (both p.z q.z r.y0 || both p.z q.z r.y1))
+    (contains r p.x p.z && contains r q.x q.z)
+    && ((both p.x q.x r.x0 || both p.x q.x r.x1) || (both p.z q.z r.y0 || both p.z q.z r.y1))
 
--- so many triangles go along an edge one way and so many the other way: none at all, or, where the edge is on the border, one in all, else one each way
+-- so many triangles go along an edge one way and so many the other way: none at all, or, where the edge is on the
+-- border, one in all, else one each way
 unfoldable pub is_closed_by : ℕ → ℕ → Bool → Bool
 is_closed_by there back border =
     there + back == 0 || (if border then there + back == 1 else there == 1 && back == 1)
@@ -75,7 +80,8 @@ is_closed border vertices triangles a b =
     is_closed_by (edge_count triangles a b) (edge_count triangles b a)
     (is_on_side border (vertex_of_place vertices a) (vertex_of_place vertices b))
 
--- an edge on the border of the coarsest active region is in one triangle, and any other edge in two, once in each direction
+-- an edge on the border of the coarsest active region is in one triangle, and any other edge in two, once in each
+-- direction
 abbrev pub EdgesClose : Terrain → ℕ → List Region → Type 0
 EdgesClose terrain k actives =
     let lists = mesh terrain k actives in

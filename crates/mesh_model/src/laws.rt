@@ -1,5 +1,5 @@
-//! Laws over the definitions alone: each function does nothing, or calls the laws that it follows from, and its contract
-//! is the law.
+//! Laws over the definitions alone: each function does nothing, or calls the laws that it follows from, and its
+//! contract is the law.
 
 ghost use Rattle.mesh_model.specs.Laws.{OneLevelVertices, OneLevelPlaces, OneLevelTriangles, OneLevelParts, OneLevelVertexCount, OneLevelTriangleCount, OneLevelNames, BoxHolds, PartsCover, PartsAreBounded, NestedNames, VerticesApart, OwnPlaces, NestedVertexCount, NestedTriangleCount, DrawnNames, DrawnApart};
 ghost use Rattle.mesh_model.specs.Dropped.{DroppedOutside, DroppedUnseen, FlagsKeep};

@@ -156,10 +156,14 @@ fn add_around(
     requires active { HasPlacedCorners level active.now }
     requires gap { HasPlacedCorners level gap.now }
     ensures { OnOk result (parts.new.items ≡ parts.old.items ++
-        square_part vertices.now level North (squares_in (corners_at active.now.x0 active.now.y0 active.now.x1 gap.now.y0))
-        ∷ square_part vertices.now level West (squares_in (corners_at active.now.x0 gap.now.y0 gap.now.x0 gap.now.y1))
-        ∷ square_part vertices.now level East (squares_in (corners_at gap.now.x1 gap.now.y0 active.now.x1 gap.now.y1))
-        ∷ square_part vertices.now level South (squares_in (corners_at active.now.x0 gap.now.y1 active.now.x1 active.now.y1))
+        square_part vertices.now level North
+        (squares_in (corners_at active.now.x0 active.now.y0 active.now.x1 gap.now.y0))
+        ∷ square_part vertices.now level West
+        (squares_in (corners_at active.now.x0 gap.now.y0 gap.now.x0 gap.now.y1))
+        ∷ square_part vertices.now level East
+        (squares_in (corners_at gap.now.x1 gap.now.y0 active.now.x1 gap.now.y1))
+        ∷ square_part vertices.now level South
+        (squares_in (corners_at active.now.x0 gap.now.y1 active.now.x1 active.now.y1))
         ∷ []) }
 {
     let north = north_of(active, gap);

@@ -9,7 +9,8 @@ use Rattle.mosaic.specs.declared.fault.MosaicFault.TheVariants.{Empty, Twice, Si
 -- two tiles have one corner
 unfoldable pub same_corner : TileView → TileView → Bool
 same_corner tile other =
-    (int_le tile.corner.lat other.corner.lat && int_le other.corner.lat tile.corner.lat) && (int_le tile.corner.lon other.corner.lon && int_le other.corner.lon tile.corner.lon)
+    (int_le tile.corner.lat other.corner.lat && int_le other.corner.lat tile.corner.lat)
+    && (int_le tile.corner.lon other.corner.lon && int_le other.corner.lon tile.corner.lon)
 
 -- the first tile that has the corner of an earlier one, after some earlier ones
 abbrev pub twin_after : List TileView → List TileView → Option TileView
@@ -48,4 +49,6 @@ size_fault samples = if nat_lt (2 ^ 26) samples then Some (TooLarge samples) els
 abbrev pub mosaic_fault : List TileView → Option MosaicFault
 mosaic_fault [] = Some Empty
 mosaic_fault (first ∷ rest) =
-    twin_fault (twin_after [] (first ∷ rest)) (side_fault first.terrain.width (other_side first.terrain.width (first ∷ rest)) (size_fault (sample_count (bounds_of (map placed (first ∷ rest))))))
+    twin_fault (twin_after [] (first ∷ rest))
+    (side_fault first.terrain.width (other_side first.terrain.width (first ∷ rest))
+    (size_fault (sample_count (bounds_of (map placed (first ∷ rest))))))

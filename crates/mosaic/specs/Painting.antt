@@ -25,7 +25,8 @@ painted_over bounds x y height tile =
 -- one row is another of the mosaic's rows with a tile painted over it
 abbrev pub IsPainted : Bounds → ℕ → TileView → List ℤ → List ℤ → Type 0
 IsPainted bounds y tile before after =
-    (x : ℕ) → x < length before → slice_index_or after x (pos 0) ≡ painted_over bounds x y (slice_index_or before x (pos 0)) tile
+    (x : ℕ) → x < length before
+    → slice_index_or after x (pos 0) ≡ painted_over bounds x y (slice_index_or before x (pos 0)) tile
 
 -- what stands at a sample once some tiles are painted, one over another, over zeros
 unfoldable pub painted : Bounds → List TileView → ℕ → ℕ → ℤ

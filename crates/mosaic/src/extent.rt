@@ -25,7 +25,13 @@ impl Model for Extent {
 
     ghost view = { λ e. record { west = e.west; east = e.east; south = e.south; north = e.north; side = e.side } };
 
-    ghost invariant = { λ e. IsExtent (record { west = e.west; east = e.east; south = e.south; north = e.north; side = e.side }) };
+    ghost invariant = { λ e. IsExtent (record {
+      west = e.west;
+      east = e.east;
+      south = e.south;
+      north = e.north;
+      side = e.side;
+    }) };
 }
 
 impl Extent {

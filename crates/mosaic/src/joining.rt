@@ -102,7 +102,8 @@ fn is_same_corner(tile: &HgtTile, other: &HgtTile) -> bool
     (a.lat <= b.lat && b.lat <= a.lat) && (a.lon <= b.lon && b.lon <= a.lon)
 }
 
-// The first side among those of some tiles that isn't this one. Where there is none, all tiles are squares of this side.
+// The first side among those of some tiles that isn't this one. Where there is none, all tiles are squares of this
+// side.
 fn other_side(side: u32, tiles: &[HgtTile]) -> Option<u32>
     ensures value { result ≡ other_side side tiles.now }
     ensures squares { IsNone result → All (HasSide side) tiles.now }

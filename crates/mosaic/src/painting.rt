@@ -91,7 +91,8 @@ pub(crate) fn paint(
 ) -> Result<Vec<i16>, AllocError>
     requires placed { All (IsPlacedIn extent.now) tiles.now }
     requires few { mosaic_width extent.now * mosaic_height extent.now ≤ 2 ^ 26 }
-    ensures rows { IfOk result (λ heights. heights.items ≡ flat_map (painted_row extent.now tiles.now) (range_with_len 0 (mosaic_height extent.now))) }
+    ensures rows { IfOk result (λ heights. heights.items ≡
+        flat_map (painted_row extent.now tiles.now) (range_with_len 0 (mosaic_height extent.now))) }
     ensures whole { IfOk result (λ heights. vec_len heights ≡ mosaic_width extent.now * mosaic_height extent.now) }
 {
     let width = extent.width() as usize;

@@ -34,7 +34,8 @@ IsBlocked st level piece = IsTrue (is_some (blocked st level piece))
 -- where nothing can be claimed, something blocks the piece that waits
 abbrev pub StuckPiecesAreBlocked : Type 0
 StuckPiecesAreBlocked =
-    (st : State) (level : ℕ) (piece : Piece) → IsKept st → IsWaiting st level piece → ¬ IsClaimable st → IsBlocked st level piece
+    (st : State) (level : ℕ) (piece : Piece) → IsKept st → IsWaiting st level piece → ¬ IsClaimable st
+    → IsBlocked st level piece
 
 -- so where no pass has work and a piece waits, something can be claimed
 abbrev pub RestedPiecesAreOffered : Type 0

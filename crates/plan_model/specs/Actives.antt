@@ -1,4 +1,5 @@
--- The active regions: what is drawn of each level. Each finer one lies inside the coarser one, a margin away from its border.
+-- The active regions: what is drawn of each level. Each finer one lies inside the coarser one, a margin away from its
+-- border.
 use Rattle.std.specs.Prelude.{ℕ, zero, suc, ◌||◌, pos, ◌-ℤ◌, int_lt, List, [], ◌∷◌, if◌then◌else◌}
 use Rattle.clip_regions.specs.declared.region.Region.{Region}
 use Rattle.clip_regions.specs.Regions.{empty_region, meet, erode, double}

@@ -48,10 +48,12 @@ tile_of_piece st piece = tile_of st.k piece.bx piece.by
 
 -- ---- what can be claimed
 
--- the piece of a level can be claimed: it isn't finished, its tile is neither held nor pinned, and no coarser tile that it needs is held
+-- the piece of a level can be claimed: it isn't finished, its tile is neither held nor pinned, and no coarser tile that
+-- it needs is held
 unfoldable pub is_claimable : State → ℕ → Piece → Bool
 is_claimable st level piece =
-    (not (is_finished (level_at st level).finished piece) && not (is_held st level (tile_of_piece st piece))) && (not (is_pinned st level (tile_of_piece st piece)) && not (is_some (first_of (held_needs st level piece))))
+    (not (is_finished (level_at st level).finished piece) && not (is_held st level (tile_of_piece st piece)))
+    && (not (is_pinned st level (tile_of_piece st piece)) && not (is_some (first_of (held_needs st level piece))))
 
 -- the strip of a level is offered: the level is the coarsest, or the strip's need is filled on the coarser level
 unfoldable pub is_offered : State → ℕ → Region → Bool
@@ -66,7 +68,9 @@ pub record Offer : Type 0 where
 abbrev pub offers_of : State → ℕ → Option Region → List Offer
 offers_of st level None = []
 offers_of st level (Some strip) =
-    if is_offered st level strip then map (λ piece. record { level = level; piece = piece }) (filter (is_claimable st level) (pieces strip)) else []
+    if is_offered st level strip
+    then map (λ piece. record { level = level; piece = piece }) (filter (is_claimable st level) (pieces strip))
+    else []
 
 -- all claimable pieces: the levels in use from the coarsest, each strip's pieces in their order
 unfoldable pub offers : State → List Offer
@@ -89,7 +93,8 @@ needed_answer st level piece = option_and_then (held_answer st (level + 1)) (fir
 -- what stands in the way of a piece, the first that is there: its tile's holder, its tile's frame, a coarser holder
 abbrev pub blocked : State → ℕ → Piece → Option Answer
 blocked st level piece =
-    option_or (held_answer st level (tile_of_piece st piece)) (option_or (busy_answer st level (tile_of_piece st piece)) (needed_answer st level piece))
+    option_or (held_answer st level (tile_of_piece st piece))
+    (option_or (busy_answer st level (tile_of_piece st piece)) (needed_answer st level piece))
 
 -- what is answered for a level's first unfinished piece (something blocks it in each state that a book reaches)
 abbrev pub ripe_or_blocked : State → ℕ → Option Piece → Answer

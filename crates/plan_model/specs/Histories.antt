@@ -29,7 +29,10 @@ run_from st = record { state = st; history = [] }
 unfoldable pub then_step : Run → ℕ → Event → Run
 then_step run p event =
     let next = step run.state p event in
-    record { state = next.state; history = run.history ++ record { pass = p; event = event; answer = next.answer } ∷ [] }
+    record {
+      state = next.state;
+      history = run.history ++ record { pass = p; event = event; answer = next.answer } ∷ [];
+    }
 
 -- the run of a list of events from a state
 unfoldable pub run : State → List Asked → Run
@@ -48,7 +51,10 @@ IsAllowed st p End = Unit {0}
 abbrev pub IsLegalFrom : State → List Entry → Type 0
 IsLegalFrom st [] = Unit {0}
 IsLegalFrom st (e ∷ rest) =
-    (e.pass < length st.passes) × IsAllowed st e.pass e.event × ((step st e.pass e.event).answer ≡ e.answer) × IsLegalFrom (step st e.pass e.event).state rest
+    (e.pass < length st.passes)
+    × IsAllowed st e.pass e.event
+    × ((step st e.pass e.event).answer ≡ e.answer)
+    × IsLegalFrom (step st e.pass e.event).state rest
 
 -- a history is legal for K and a number of levels
 abbrev pub IsLegalHistory : ℕ → ℕ → List Entry → Type 0

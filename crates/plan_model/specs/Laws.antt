@@ -20,16 +20,19 @@ EvenWindows = (k level : ℕ) (x y : ℤ) → 2 ≤ k → HasEvenCorners (window
 -- half of a finer window lies at least 2^(K - 2) - 1 cells inside the coarser window
 abbrev pub NestedWindows : Type 0
 NestedWindows =
-    (k level : ℕ) (x y : ℤ) → 2 ≤ k → IsTrue (holds (erode (window k (level + 1) x y) (pos (2 ^ (k - 2) - 1))) (halve (window k level x y)))
+    (k level : ℕ) (x y : ℤ) → 2 ≤ k
+    → IsTrue (holds (erode (window k (level + 1) x y) (pos (2 ^ (k - 2) - 1))) (halve (window k level x y)))
 
 -- the filled region is empty or lies in the window
 abbrev pub IsFilledIn : Region → Region → Type 0
 IsFilledIn filled window = (is_empty filled ≡ true) ⊎ IsTrue (holds window filled)
 
--- each cell of a window lies in its filled region or in one of its strips, and in no two of them, and no other cell does
+-- each cell of a window lies in its filled region or in one of its strips, and in no two of them, and no other cell
+-- does
 abbrev pub StripsPartition : Type 0
 StripsPartition =
-    (filled window : Region) → IsFilledIn filled window → (i j : ℤ) → count_by (λ r. contains r i j) (filled ∷ strips filled window) ≡ (if contains window i j then 1 else 0)
+    (filled window : Region) → IsFilledIn filled window → (i j : ℤ)
+    → count_by (λ r. contains r i j) (filled ∷ strips filled window) ≡ (if contains window i j then 1 else 0)
 
 -- each cell of a region lies in exactly one of its pieces, and no other cell does
 abbrev pub PiecesPartition : Type 0
@@ -39,7 +42,8 @@ PiecesPartition =
 -- a filled region and its first strip are together one rectangle
 abbrev pub GrowsToRectangle : Type 0
 GrowsToRectangle =
-    (filled window strip : Region) → IsFilledIn filled window → current_strip filled window ≡ Some strip → (i j : ℤ) → contains (hull filled strip) i j ≡ (contains filled i j || contains strip i j)
+    (filled window strip : Region) → IsFilledIn filled window → current_strip filled window ≡ Some strip → (i j : ℤ)
+    → contains (hull filled strip) i j ≡ (contains filled i j || contains strip i j)
 
 -- the tile of a cell is that of its block
 abbrev pub OneTileABlock : Type 0
@@ -48,7 +52,11 @@ OneTileABlock = (k : ℕ) (i j : ℤ) → 3 ≤ k → tile_of_cell k i j ≡ til
 -- two cells of one window that have one wrapped place are one cell
 abbrev pub DistinctPlaces : Type 0
 DistinctPlaces =
-    (k level : ℕ) (x y i j i' j' : ℤ) → 2 ≤ k → IsTrue (contains (window k level x y) i j) → IsTrue (contains (window k level x y) i' j') → wrapped_place k i j ≡ wrapped_place k i' j' → (i ≡ i') × (j ≡ j')
+    (k level : ℕ) (x y i j i' j' : ℤ) → 2 ≤ k
+    → IsTrue (contains (window k level x y) i j)
+    → IsTrue (contains (window k level x y) i' j')
+    → wrapped_place k i j ≡ wrapped_place k i' j'
+    → (i ≡ i') × (j ≡ j')
 
 -- the region is empty or has even corners
 abbrev pub IsEvenOrEmpty : Region → Type 0

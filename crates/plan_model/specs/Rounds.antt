@@ -1,4 +1,5 @@
--- A flight: rounds in which workers claim and fill pieces and one pass draws a frame, made by taking one step after the other.
+-- A flight: rounds in which workers claim and fill pieces and one pass draws a frame, made by taking one step after the
+-- other.
 use Rattle.std.specs.Prelude.{ℕ, zero, suc, ◌-◌, Bool, true, false, ◌&&◌, ◌==◌, List, [], ◌∷◌, map, fold, length, sum_by, is_some, if◌then◌else◌}
 use Rattle.std.specs.List.{range_with_len, list_all}
 use Rattle.clip_regions.specs.Regions.{area, meet}

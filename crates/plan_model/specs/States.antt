@@ -1,4 +1,5 @@
--- What a book of the plan knows: the viewer, what is filled and finished on each level, and what each pass has. It has no heights.
+-- What a book of the plan knows: the viewer, what is filled and finished on each level, and what each pass has.
+-- It has no heights.
 use Rattle.std.specs.Prelude.{ℕ, ◌+◌, ◌-◌, ◌^◌, Bool, true, false, ◌&&◌, ◌||◌, ◌==◌, nat_le, ℤ, pos, List, [], map, filter, length, replicate, reverse, slice_index_or, slice_set, Option, Some, None, unwrap_or}
 use Rattle.std.specs.List.{range_with_len}
 use Rattle.clip_regions.specs.declared.region.Region.{Region}

@@ -45,7 +45,8 @@ moved_level stays window old =
 -- each level after a move from a state to another viewer
 abbrev pub moved_levels : State → State → List Level
 moved_levels before after =
-    map (λ level. moved_level (stays before after level) (window_at after level) (level_at before level)) (level_numbers before)
+    map (λ level. moved_level (stays before after level) (window_at after level) (level_at before level))
+    (level_numbers before)
 
 -- the viewer moves to (x, y) at altitude a
 unfoldable pub move_step : State → ℤ → ℤ → ℕ → Step
@@ -66,7 +67,10 @@ job_answer job = Job job.level job.piece.bx job.piece.by job.piece.cells job.pla
 
 abbrev pub claimed : State → ℕ → Option Offer → Step
 claimed st p None = unchanged st (no_offer st)
-claimed st p (Some offer) = record { state = with_pass st p (Fills (claimed_job st offer)); answer = job_answer (claimed_job st offer) }
+claimed st p (Some offer) = record {
+  state = with_pass st p (Fills (claimed_job st offer));
+  answer = job_answer (claimed_job st offer);
+}
 
 -- pass p claims the first claimable piece
 unfoldable pub claim_step : State → ℕ → Step
@@ -76,12 +80,15 @@ claim_step st p = if has_work (pass_at st p) then unchanged st HasWork else clai
 
 -- the level with one more finished piece, in the order of the strip's pieces
 unfoldable pub finished_level : List Piece → Level → Piece → Level
-finished_level all old piece = record old { finished = filter (λ other. same_block other piece || is_finished old.finished other) all }
+finished_level all old piece =
+    record old { finished = filter (λ other. same_block other piece || is_finished old.finished other) all }
 
 -- a job of the level's plan: its piece is finished
 abbrev pub kept_job : State → ℕ → JobNote → Step
 kept_job st p job = record {
-  state = with_level (with_pass st p Free) job.level (finished_level (pieces_at st job.level) (level_at st job.level) job.piece);
+  state =
+      with_level (with_pass st p Free) job.level
+      (finished_level (pieces_at st job.level) (level_at st job.level) job.piece);
   answer = Kept;
 }
 
@@ -117,7 +124,8 @@ grown st level strip = record {
 abbrev pub published : State → ℕ → Option Region → Step
 published st level None = unchanged st Whole
 published st level (Some strip) =
-    if length (unfinished_pieces st level) == 0 then grown st level strip else unchanged st (Waiting (length (unfinished_pieces st level)))
+    if length (unfinished_pieces st level) == 0 then grown st level strip
+    else unchanged st (Waiting (length (unfinished_pieces st level)))
 
 -- the filled region of a level takes its current strip in
 unfoldable pub publish_step : State → ℕ → Step
@@ -133,7 +141,10 @@ pub record LevelTile : Type 0 where
 -- the held tiles that a list of active regions meets: the levels from the coarsest, each in the order of tiles
 unfoldable pub held_under : State → List Region → List LevelTile
 held_under st active =
-    flat_map (λ level. map (λ t. record { level = level; tile = t }) (held_tiles st level (slice_index_or active level empty_region))) (from_coarsest st)
+    flat_map
+    (λ level. map (λ t. record { level = level; tile = t })
+    (held_tiles st level (slice_index_or active level empty_region)))
+    (from_coarsest st)
 
 -- the active regions of a state
 abbrev pub actives_at : State → List Region
@@ -154,7 +165,8 @@ frame_begun st p None = record {
 -- pass p begins a frame of the active regions
 unfoldable pub begin_step : State → ℕ → Step
 begin_step st p =
-    if has_work (pass_at st p) then unchanged st HasWork else frame_begun st p (first_of (held_under st (actives_at st)))
+    if has_work (pass_at st p) then unchanged st HasWork
+    else frame_begun st p (first_of (held_under st (actives_at st)))
 
 abbrev pub ended : State → ℕ → Option OpenFrame → Step
 ended st p None = unchanged st NoFrame

@@ -1,4 +1,5 @@
--- What a level lacks: the strips of its window round its filled region, the pieces of a strip, and the coarser cells that a piece needs.
+-- What a level lacks: the strips of its window round its filled region, the pieces of a strip, and the coarser cells
+-- that a piece needs.
 use Rattle.std.specs.Prelude.{Bool, not, ℤ, pos, ◌+ℤ◌, ◌-ℤ◌, List, [], ◌∷◌, map, filter, flat_map, Option, Some, None, if◌then◌else◌}
 use Rattle.std.specs.Int.{int_min, int_max, int_gap}
 use Rattle.clip_regions.specs.declared.region.Region.{Region}
@@ -32,10 +33,13 @@ above filled window = record { x0 = window.x0; y0 = window.y0; x1 = window.x1; y
 unfoldable pub below : Region → Region → Region
 below filled window = record { x0 = window.x0; y0 = filled.y1 +ℤ pos 1; x1 = window.x1; y1 = window.y1 }
 
--- the strips of a filled region in its window: the window where nothing is filled, else left, right, above and below, without empty ones
+-- the strips of a filled region in its window: the window where nothing is filled, else left, right, above and below,
+-- without empty ones
 unfoldable pub strips : Region → Region → List Region
 strips filled window =
-    if is_empty filled then window ∷ [] else filter has_cell (left_of filled window ∷ right_of filled window ∷ above filled window ∷ below filled window ∷ [])
+    if is_empty filled then window ∷ []
+    else filter has_cell
+    (left_of filled window ∷ right_of filled window ∷ above filled window ∷ below filled window ∷ [])
 
 -- the strip that is filled first
 unfoldable pub current_strip : Region → Region → Option Region
@@ -44,7 +48,13 @@ current_strip filled window = first_of (strips filled window)
 -- the least region that holds both
 unfoldable pub hull : Region → Region → Region
 hull a b =
-    if is_empty a then b else (if is_empty b then a else record { x0 = int_min a.x0 b.x0; y0 = int_min a.y0 b.y0; x1 = int_max a.x1 b.x1; y1 = int_max a.y1 b.y1 })
+    if is_empty a then b
+    else (if is_empty b then a else record {
+      x0 = int_min a.x0 b.x0;
+      y0 = int_min a.y0 b.y0;
+      x1 = int_max a.x1 b.x1;
+      y1 = int_max a.y1 b.y1;
+    })
 
 -- the columns and the rows of the blocks that a region meets, ascending
 unfoldable pub block_columns : Region → List ℤ

@@ -1,4 +1,5 @@
--- Which torus tiles a region meets, which are held by a pass that fills them, and which are pinned by a frame that shows them.
+-- Which torus tiles a region meets, which are held by a pass that fills them, and which are pinned by a frame that
+-- shows them.
 use Rattle.std.specs.Prelude.{ℕ, min, Bool, false, ◌&&◌, ◌==◌, List, [], ◌∷◌, map, filter, flat_map, fold, length, slice_index_or, Option, Some, None, is_some, IsTrue, if◌then◌else◌}
 use Rattle.std.specs.List.{range_with_len, list_any}
 use Rattle.clip_regions.specs.declared.region.Region.{Region}
@@ -12,7 +13,8 @@ use Rattle.plan_model.specs.declared.events.JobNote.{JobNote}
 -- the tiles of a torus: by row, then by column
 unfoldable pub tiles : ℕ → List TileId
 tiles k =
-    flat_map (λ ty. map (λ tx. record { tx = tx; ty = ty }) (range_with_len 0 (tiles_per_side k))) (range_with_len 0 (tiles_per_side k))
+    flat_map (λ ty. map (λ tx. record { tx = tx; ty = ty }) (range_with_len 0 (tiles_per_side k)))
+    (range_with_len 0 (tiles_per_side k))
 
 -- the region has a cell in a block of the tile
 unfoldable pub meets_tile : ℕ → Region → TileId → Bool
@@ -29,7 +31,9 @@ job_holds k level t (Some job) = (job.level == level) && same_tile (tile_of k jo
 
 -- the pass that holds the tile of a level
 unfoldable pub holder : State → ℕ → TileId → Option ℕ
-holder st level t = first_of (filter (λ p. job_holds st.k level t (job_of (pass_at st p))) (range_with_len 0 (length st.passes)))
+holder st level t =
+    first_of
+    (filter (λ p. job_holds st.k level t (job_of (pass_at st p))) (range_with_len 0 (length st.passes)))
 
 -- the tile of a level is held
 unfoldable pub is_held : State → ℕ → TileId → Bool
@@ -41,7 +45,8 @@ IsHeld st level t = IsTrue (is_held st level t)
 -- the number of a frame whose active region of a level meets the tile, in a list
 abbrev pub pins_of : ℕ → ℕ → TileId → Option OpenFrame → List ℕ
 pins_of k level t None = []
-pins_of k level t (Some frame) = if meets_tile k (slice_index_or frame.actives level empty_region) t then frame.number ∷ [] else []
+pins_of k level t (Some frame) =
+    if meets_tile k (slice_index_or frame.actives level empty_region) t then frame.number ∷ [] else []
 
 -- the numbers of the open frames that pin the tile of a level
 unfoldable pub pinning_frames : State → ℕ → TileId → List ℕ

@@ -1,4 +1,5 @@
--- The window of a level: the square of cells round the viewer that a level keeps. K sets its size, and level 0 is the finest.
+-- The window of a level: the square of cells round the viewer that a level keeps. K sets its size, and level 0 is the
+-- finest.
 use Rattle.std.specs.Prelude.{ℕ, ◌+◌, ◌-◌, ◌^◌, max, ℤ, pos, neg_ℤ, ◌+ℤ◌, ◌-ℤ◌, ◌*ℤ◌, ◌≤ℤ◌}
 use Rattle.clip_regions.specs.declared.region.Region.{Region}
 use Rattle.clip_regions.specs.FloorDivision.{floor_div}

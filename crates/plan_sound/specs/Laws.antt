@@ -20,7 +20,8 @@ SoundStarts = (k levels : ℕ) → IsSize k → IsLevelCount levels → IsSound 
 -- an event that can be taken leaves a sound state sound: its numbers rise by at most one
 abbrev pub SoundSteps : Type 0
 SoundSteps =
-    (n : ℕ) (st : State) (p : ℕ) (event : Event) → IsTaken (length st.levels) event → IsSound n st → IsSound (n + 1) (step st p event).state
+    (n : ℕ) (st : State) (p : ℕ) (event : Event) → IsTaken (length st.levels) event → IsSound n st
+    → IsSound (n + 1) (step st p event).state
 
 -- a sound state is sound for every greater bound
 abbrev pub WiderBounds : Type 0
@@ -50,12 +51,14 @@ WindowsHaveCells = (k level : ℕ) (x y : ℤ) → IsInside (window k level x y)
 -- the first strip of a filled region lies in its window
 abbrev pub StripsAreInside : Type 0
 StripsAreInside =
-    (filled window : Region) → IsFilledPart window filled → IsInside window window → IfSome (current_strip filled window) (IsInside window)
+    (filled window : Region) → IsFilledPart window filled → IsInside window window
+    → IfSome (current_strip filled window) (IsInside window)
 
 -- the current strip of a level of a sound state lies in its window
 abbrev pub SoundStrips : Type 0
 SoundStrips =
-    (n : ℕ) (st : State) (level : ℕ) → level < length st.levels → IsSound n st → IfSome (strip_at st level) (IsInside (window_at st level))
+    (n : ℕ) (st : State) (level : ℕ) → level < length st.levels → IsSound n st
+    → IfSome (strip_at st level) (IsInside (window_at st level))
 
 -- the filled regions of a sound state lie near the mosaic's corner
 abbrev pub FilledAreNear : Type 0

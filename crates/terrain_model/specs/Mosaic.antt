@@ -72,7 +72,8 @@ covers bounds x y tile =
 -- one tile lies north of another, or as far north and west of it
 unfoldable pub comes_before : PlacedTile → PlacedTile → Bool
 comes_before tile other =
-    int_lt other.corner.lat tile.corner.lat || (not (int_lt tile.corner.lat other.corner.lat) && int_lt tile.corner.lon other.corner.lon)
+    int_lt other.corner.lat tile.corner.lat
+    || (not (int_lt tile.corner.lat other.corner.lat) && int_lt tile.corner.lon other.corner.lon)
 
 -- the tile covers the sample, and no tile that covers it comes before
 unfoldable pub owns : Bounds → List PlacedTile → ℕ → ℕ → PlacedTile → Bool
@@ -101,7 +102,9 @@ unfoldable pub mosaic_terrain : Bounds → List PlacedTile → Terrain
 mosaic_terrain bounds tiles = record {
   width = mosaic_width bounds;
   height = mosaic_height bounds;
-  table = flat_map (λ y. map (λ x. mosaic_sample bounds tiles x y) (range_with_len 0 (mosaic_width bounds))) (range_with_len 0 (mosaic_height bounds));
+  table =
+      flat_map (λ y. map (λ x. mosaic_sample bounds tiles x y) (range_with_len 0 (mosaic_width bounds)))
+      (range_with_len 0 (mosaic_height bounds));
 }
 
 -- the terrain of a set of tiles, each height decided by itself

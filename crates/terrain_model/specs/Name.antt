@@ -25,7 +25,8 @@ latitude side tens ones =
 unfoldable pub longitude : ℕ → ℕ → ℕ → ℕ → Option ℤ
 longitude side hundreds tens ones =
     if is_ascii_digit hundreds && is_ascii_digit tens && is_ascii_digit ones
-    then degrees (is_either_case 101 side) (is_either_case 119 side) 180 (100 * (hundreds - 48) + 10 * (tens - 48) + (ones - 48))
+    then degrees (is_either_case 101 side) (is_either_case 119 side) 180
+    (100 * (hundreds - 48) + 10 * (tens - 48) + (ones - 48))
     else None
 
 -- are these four characters `.hgt`, each letter in either case?

@@ -2,7 +2,8 @@
 use Rattle.std.specs.Prelude.{◌≡◌, ℕ, ◌+◌, ◌-◌, ◌*◌, ◌/◌, ◌^◌, ◌≤◌, ◌&&◌, List, length, ℤ, pos, negsuc, ◌*ℤ◌, FitsSigned, All, nat_lt, if◌then◌else◌, slice_index_or}
 use Rattle.std.specs.Int.{w16}
 
--- a terrain: its width and height in samples, and its heights in metres, row by row from the north and each row from the west
+-- a terrain: its width and height in samples, and its heights in metres, row by row from the north and each row from
+-- the west
 pub record Terrain : Type 0 where
   pub width : ℕ
   pub height : ℕ

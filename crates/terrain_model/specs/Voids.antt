@@ -11,7 +11,8 @@ is_void (negsuc n) = n == 32767
 unfoldable pub first_known : List ℤ → ℤ
 first_known samples = unwrap_or (find (λ sample. not (is_void sample)) samples) (pos 0)
 
--- the height at place n of a row of samples: the nearest known one, from place n to the west and then from there to the east
+-- the height at place n of a row of samples: the nearest known one, from place n to the west and then from there to the
+-- east
 unfoldable pub known_at : List ℤ → ℕ → ℤ
 known_at row n = first_known (reverse (take (n + 1) row) ++ drop (n + 1) row)
 

@@ -1,4 +1,5 @@
--- Where a cell stands in its torus tile, and among the cells of a region; and what a tile is after some of its cells were written.
+-- Where a cell stands in its torus tile, and among the cells of a region; and what a tile is after some of its cells
+-- were written.
 use Rattle.std.specs.Prelude.{◌≡◌, ℕ, ◌+◌, ◌*◌, ℤ, pos, List, length, slice_index_or, IsTrue}
 use Rattle.std.specs.Int.{int_gap}
 use Rattle.clip_regions.specs.declared.region.Region.{Region}
@@ -31,5 +32,6 @@ IsFree r i j = (i' j' : ℤ) → IsTrue (contains r i' j') → ¬ (place_in_tile
 -- a tile after the cells of a region were written: these have the heights, row by row, and all others their old ones
 pub record IsWritten (old : List ℤ) (cells : Region) (heights new : List ℤ) : Type 0 where
   pub many : length new ≡ 64
-  pub written : (i j : ℤ) → IsTrue (contains cells i j) → tile_height new i j ≡ slice_index_or heights (place_among cells i j) (pos 0)
+  pub written : (i j : ℤ) → IsTrue (contains cells i j) →
+      tile_height new i j ≡ slice_index_or heights (place_among cells i j) (pos 0)
   pub others : (i j : ℤ) → IsFree cells i j → tile_height new i j ≡ tile_height old i j
