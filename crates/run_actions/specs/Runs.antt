@@ -1,6 +1,5 @@
 -- What a run did of a list of actions, however it ended: all of them, or a front of them and what the refusal of the
--- next
--- one left.
+-- next one left.
 use Rattle.std.specs.Prelude.{◌≡◌, ℕ, ◌+◌, ◌≤◌, List, [], ◌∷◌, ◌++◌, Option, None, option_map, IsSomeAnd, MatchOption, Result, Ok, Err, ◌⊎◌, ⊤}
 use Rattle.outer_shelf.specs.Counts.{Rose}
 use Rattle.outer_shelf.specs.Outside.{AppendsFront, Files, SameElsewhere, ShelfTold, SinkTold, files_with}

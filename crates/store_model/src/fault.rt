@@ -37,8 +37,7 @@ pub enum StoreFault {
         fault: BlockFault,
     },
     /// The cell in column `i` and row `j` of the level is the first of its block whose value, in metres, is no height
-    /// of 16
-    /// bits and not within half a step of one.
+    /// of 16 bits and not within half a step of one.
     OutOfRange {
         level: u8,
         i: u32,

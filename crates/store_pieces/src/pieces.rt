@@ -17,8 +17,7 @@ use terrain_store::Store;
 
 /// Writes the heights of some cells of a block of a level, row by row from the north and each row from the west, in
 /// metres; 0 outside the terrain. `patch` is the block's patch of coarser heights, and has to predict the cells that
-/// lie
-/// in the terrain as the next coarser level does. No memory is taken.
+/// lie in the terrain as the next coarser level does. No memory is taken.
 pub fn stored_piece(
     store: &Store,
     level: u8,

@@ -143,8 +143,7 @@ impl Store {
     }
 
     /// The block in column `bx` and row `by` of a level: its cells in the terrain and its bytes, or `Outside` where it
-    /// has
-    /// no such cells or the store no such level. It is found in constant time, and no memory is taken.
+    /// has no such cells or the store no such level. It is found in constant time, and no memory is taken.
     ///
     /// With the block's patch of coarser heights, `piece_heights` makes the level's heights of it.
     pub fn block(&self, level: u8, bx: i32, by: i32) -> Block<'_>
