@@ -190,13 +190,9 @@ pub fn cull(alloc: Global, mesh: &Mesh, header: &Header, keep: &[bool]) -> Resul
     let kept = kept_parts(alloc, mesh, keep)?;
     let mut text = Vec::new(alloc);
     let mut digits = Buffer::new();
+    let all = mesh.parts().len() as u64;
     append_head(&mut text, header)?;
-    append_kept(
-        &mut text,
-        &mut digits,
-        kept.parts as u64,
-        mesh.parts().len() as u64,
-    )?;
+    append_kept(&mut text, &mut digits, kept.parts as u64, all)?;
     let numbers = append_vertices(
         alloc,
         &mut text,
