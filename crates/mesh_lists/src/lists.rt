@@ -72,8 +72,6 @@ pub fn text_lists(alloc: Global, bytes: &[u8]) -> Result<TextLists, ListsFault>
     ensures lists { MatchResult result (λ lists. lists_of_text bytes.now ≡ Ok lists)
         (IsStop (lists_of_text bytes.now)) }
 {
-    match read_head(alloc, bytes) {
-        Ok(head) => read_body(alloc, head),
-        Err(fault) => Err(fault),
-    }
+    let head = read_head(alloc, bytes)?;
+    read_body(alloc, head)
 }
