@@ -6,6 +6,8 @@ mod calls;
 #[cfg(test)]
 mod changes;
 #[cfg(test)]
+mod plays;
+#[cfg(test)]
 mod runs;
 #[cfg(test)]
 mod scripts;
@@ -15,3 +17,5 @@ mod stores;
 mod texts;
 #[cfg(test)]
 mod tiles;
+#[cfg(test)]
+mod trial;

@@ -7,6 +7,15 @@ use std::thread::Threads;
 /// The name of a tile.
 pub(crate) const TILE: &str = "N00E000.hgt";
 
+/// The 3 × 3 tile of the heights 1 to 9.
+pub(crate) const NINE: [u8; 18] = [0, 1, 0, 2, 0, 3, 0, 4, 0, 5, 0, 6, 0, 7, 0, 8, 0, 9];
+
+/// The exact store of 3 × 3 samples that are 0, but for 30000 in the middle.
+pub(crate) const STORE: [u8; 33] = [
+    0x47, 0x43, 0x54, 0x31, 0, 0, 0, 3, 0, 0, 0, 3, 2, 0, 8, 0, 0, 0, 0, 0, 0, 0, 0, 0, 8, 0x03,
+    0xff, 0xff, 0xff, 0xfc, 0xea, 0x60, 0x00,
+];
+
 // Words as a command line has them.
 fn owned(alloc: Global, words: &[&str]) -> Result<Vec<String>, AllocError> {
     let mut all = Vec::new(alloc);

@@ -1,17 +1,11 @@
 //! Stores that are cut and changed: the reader, an `info` and a frame say the same of them.
 use crate::changes::{below, changed, next};
-use crate::runs::{TILE, run};
+use crate::runs::{STORE, TILE, run};
 use std::alloc::{AllocError, Global};
 use std::test::Fail;
 use std::thread::Threads;
 use terrain_lines::store_fault_line;
 use terrain_store::{Store, read_store};
-
-// The exact store of 3 × 3 samples that are 0, but for 30000 in the middle.
-const FIRST: [u8; 33] = [
-    0x47, 0x43, 0x54, 0x31, 0, 0, 0, 3, 0, 0, 0, 3, 2, 0, 8, 0, 0, 0, 0, 0, 0, 0, 0, 0, 8, 0x03,
-    0xff, 0xff, 0xff, 0xfc, 0xea, 0x60, 0x00,
-];
 
 // What is to be said of bytes: by `info`, and by a frame of two levels.
 #[derive(Drop)]
@@ -96,14 +90,14 @@ fn is_cut_at(alloc: Global, bytes: &[u8]) -> Result<bool, Fail> {
 fn the_first_store_changed_and_cut(rt: HostRuntime) -> Result<(), Fail> {
     for place in 0..33usize {
         for change in 1..=255u8 {
-            let mut bytes = FIRST;
+            let mut bytes = STORE;
             bytes[place] ^= change;
             assert!(rt; agree(&rt, &bytes)?, "byte {place} by {change}");
         }
-        assert!(rt; is_cut_at(rt.alloc(), &FIRST[..place])?, "cut to {place}");
-        assert!(rt; agree(&rt, &FIRST[..place])?, "cut to {place}");
+        assert!(rt; is_cut_at(rt.alloc(), &STORE[..place])?, "cut to {place}");
+        assert!(rt; agree(&rt, &STORE[..place])?, "cut to {place}");
     }
-    assert!(rt; agree(&rt, &FIRST)?);
+    assert!(rt; agree(&rt, &STORE)?);
     Ok(())
 }
 
