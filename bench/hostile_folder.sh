@@ -132,6 +132,36 @@ folder true
 try "FILE is a device" 3 out.obj check /dev/zero
 try "FILE says that it is empty and isn't" 2 out.obj check /proc/self/status
 
+# What a script can be, and what a play does with the rest where its script is one.
+playing() { printf 'size 4 1\nbegin 0\nend 0\nbegin 0\nend 0\n' >s; printf old >out-1.obj; }
+script() {
+    local label=$1 want=$2 out=$3 words=$4
+    shift 4
+    scripted() { playing; "$@"; }
+    folder scripted "$@"
+    # shellcheck disable=SC2086
+    try "$label" "$want" "$out" $words
+}
+script "a play" 0 out-0.obj "play s out N00E000.hgt" true
+script "SCRIPT is a pipe that nobody writes" 3 out-0.obj "play t out N00E000.hgt" mkfifo t
+script "SCRIPT is a device" 3 out-0.obj "play /dev/zero out N00E000.hgt" true
+script "SCRIPT is a folder" 3 out-0.obj "play t out N00E000.hgt" mkdir t
+script "SCRIPT is a dangling link" 2 out-0.obj "play t out N00E000.hgt" ln -s nowhere t
+script "SCRIPT is a tile" 2 out-0.obj "play N00E000.hgt out N00E000.hgt" true
+script "SCRIPT is a link to a script" 0 out-0.obj "play t out N00E000.hgt" ln -s s t
+long_script() { truncate -s 33554433 t; }
+script "SCRIPT is one byte too long" 2 out-0.obj "play t out N00E000.hgt" long_script
+bad_script() { printf 'size 4 1\nclaim 16\n' >t; mkfifo N00E001.hgt; }
+script "SCRIPT has a bad line, INPUT is a pipe" 2 out-0.obj "play t out N00E001.hgt" bad_script
+script "INPUT of a play is a pipe" 3 out-0.obj "play s out N00E001.hgt" mkfifo N00E001.hgt
+script "the first frame's name is a folder" 3 out-0.obj "play s out N00E000.hgt" mkdir out-0.obj
+second() { rm out-1.obj; mkdir out-1.obj; }
+script "the second frame's name is a folder: the first one" 3 out-0.obj "play s out N00E000.hgt" second
+script "the second frame's name is a folder: the second one" 3 out-1.obj "play s out N00E000.hgt" second
+script "OUT of a play lies in no folder" 3 none/out-0.obj "play s none/out N00E000.hgt" true
+to_output() { ln -s /dev/null out-0.obj; }
+script "the first frame's name is a link to a device that takes all" 0 out-0.obj "play s out N00E000.hgt" to_output
+
 # What OUT can be.
 output() {
     local label=$1 want=$2 name=$3
@@ -172,6 +202,15 @@ chown nobody "$work/full/out.obj"
 try "the disk is full; OUT is there" 3 "$work/full/out.obj" frame 6 6 1 1 ../full/out.obj N00E000.hgt
 try "the disk is full; OUT is new" 3 "$work/full/new.obj" frame 6 6 1 1 ../full/new.obj N00E000.hgt
 
+# The same of a play, whose second frame is one too large.
+whole_windows() {
+    { printf 'size 6 1\nbegin 0\nend 0\n'; for _ in $(seq 81); do printf 'claim 0\nfinish 0\n'; done; printf 'publish 0\nbegin 0\nend 0\n'; } >large
+}
+folder whole_windows
+rm -f "$work/full"/*
+try "the disk is full: a frame of a play before" 3 "$work/full/out-0.obj" play large ../full/out N00E000.hgt
+try "the disk is full: the frame of a play that doesn't fit" 3 "$work/full/out-1.obj" play large ../full/out N00E000.hgt
+
 # What standard output can be. The output of these rows is what came through, if anything could.
 stream() {
     local label=$1 want=$2 status=0 shell=$3
@@ -185,6 +224,16 @@ stream "standard output is closed" 4 "program $words >&-"
 stream "standard output is a full device" 4 "program $words >/dev/full"
 stream "standard output is a pipe whose reader has left" 4 '(sleep 0.2; program '"$words"'; echo $? >"$work/status") | true; sleep 0.5; (exit "$(cat "$work/status")")'
 stream "standard input is closed" 0 "program $words <&- >\"\$work/output\""
+# The same of a play, whose first line comes before its first file.
+stream_of_play() {
+    local label=$1 want=$2 status=0 shell=$3
+    folder playing
+    : >"$work/output"
+    eval "$shell" 2>"$work/errors" || status=$?
+    row "$label" "play s out N00E000.hgt" "$want" "$status" out-0.obj
+}
+stream_of_play "standard output of a play is closed" 4 'program play s out N00E000.hgt >&-'
+stream_of_play "standard output of a play is a full device" 4 'program play s out N00E000.hgt >/dev/full'
 folder true
 status=0
 (set +e; program info N00E000.hgt; echo $? >"$work/status") 2>"$work/errors" | head -n 1 >"$work/output"

@@ -1,8 +1,8 @@
 #!/usr/bin/env bash
 # Refuses each request for memory of a run of the built program in turn, first that one alone and then that one and
 # every later one, up to the last. A run has to end with status 5 and a front of its lines, or as it does without a
-# refusal; each file that it puts is whole or as it was, all others stay as they were, and a line never stands without
-# its file. It prints two rows a run, and a line on standard error where that isn't so. Needs cc.
+# refusal; each file that it puts is whole or as it was, all others stay as they were, a line never stands without its
+# file, and no file is put before the lines of those before it stand. It prints two rows a run, and a line on standard error where that isn't so. Needs cc.
 set -eu
 top=$(cd "$(dirname "${BASH_SOURCE[0]}")/.." && pwd)
 work=$(mktemp -d)
@@ -70,7 +70,14 @@ program, library = sys.argv[1:]
 
 # A tile of 3 x 3 samples, and what the program makes of it: a store of two levels and a frame.
 NINE = bytes([0, 1, 0, 2, 0, 3, 0, 4, 0, 5, 0, 6, 0, 7, 0, 8, 0, 9])
-base = {'N00E000.hgt': NINE, 'N00E001.hgt': NINE, 'out.obj': b'old', 'out.gct': b'old'}
+base = {'N00E000.hgt': NINE, 'N00E001.hgt': NINE, 'out.obj': b'old', 'out.gct': b'old', 'out-1.obj': b'old'}
+
+# Scripts: three frames of one level, of which a view keeps parts of one, and one frame of two levels; and a faulty one.
+PAIRS = 'claim 0\nfinish 0\n' * 9
+base['one.play'] = ('size 4 1\nmove 1 1\nbegin 2\n' + PAIRS + 'publish 0\nbegin 0\nbegin 1\nmove 41 1\nclaim 3\nend 0\n'
+    'see 1 0 0 -9\nendseen 1\nfinish 3\nend 2\n').encode()
+base['two.play'] = ('size 4 2\n' + PAIRS + 'publish 1\n' + PAIRS + 'publish 0\nbegin 0\nend 0\n').encode()
+base['bad.play'] = b'size 4 1\nclaim 16\n'
 
 # Each run: its words, and which file a line of its output tells of, by a pattern with the file's number, if it has one.
 RUNS = [
@@ -83,6 +90,9 @@ RUNS = [
     ('info a.gct', None, None),
     ('check a.obj', None, None),
     ('check a.gct', None, None),
+    ('play one.play out N00E000.hgt', r'end(?:seen)? \d+: closed (\d+) ', 'out-%s.obj'),
+    ('play two.play out a.gct', r'end \d+: closed (\d+) ', 'out-%s.obj'),
+    ('play bad.play out N00E000.hgt', None, None),
     ('frame', None, None),
 ]
 
@@ -102,6 +112,11 @@ def run(words, files, number=0, onward=False):
     shutil.rmtree(folder)
     return done.returncode, done.stdout, b'refused\n' in done.stderr, left
 
+# The files of which an output tells, in the order of its lines.
+def names_told(output, pattern, name):
+    found = [pattern and re.match(pattern, line) for line in output.decode().splitlines()]
+    return [name % one.groups() for one in found if one]
+
 # Why this end isn't right, or None. The whole run is the same one without a refusal.
 def fault(end, whole, files, pattern, name):
     status, output, _, left = end
@@ -114,12 +129,13 @@ def fault(end, whole, files, pattern, name):
     for other in set(left) | set(files):
         if left.get(other) != files.get(other) and left.get(other) != whole[3].get(other):
             return 'another %s' % other
-    for line in output.decode().splitlines():
-        found = pattern and re.match(pattern, line)
-        if found:
-            told = name % found.groups()
-            if left.get(told) != whole[3][told]:
-                return 'a line before %s' % told
+    told, order = names_told(output, pattern, name), names_told(whole[1], pattern, name)
+    for early in told:
+        if left.get(early) != whole[3][early]:
+            return 'a line before %s' % early
+    for later in order[len(told) + 1:]:
+        if left.get(later) != files.get(later):
+            return 'an early %s' % later
     return None
 
 base['a.gct'] = run('pack 2 a.gct N00E000.hgt', base)[3]['a.gct']
