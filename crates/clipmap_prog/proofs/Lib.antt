@@ -1,7 +1,6 @@
 pub mod Concluding
 pub mod Fetching
 pub mod Following
-pub mod Framed
 pub mod Lists
 pub mod Mosaics
 pub mod Played

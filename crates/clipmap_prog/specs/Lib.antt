@@ -1,6 +1,5 @@
 pub mod Check
 pub mod Commands
-pub mod Courses
 pub mod Faults
 pub mod Frame
 pub mod Info
@@ -15,4 +14,3 @@ pub mod Reading
 pub mod Sources
 pub mod Stores
 pub mod Verdicts
-pub mod WholeFrame

@@ -1,70 +1,52 @@
 //! The command `frame`.
-ghost use Rattle.std.specs.Prelude.{◌≡◌, ◌≤◌, ◌⊎◌, IfOk, IfSome, length};
-ghost use Rattle.outer_shelf.specs.Counts.{Rose};
+ghost use Rattle.std.specs.Prelude.{◌≡◌, ◌⊎◌, IfOk};
+ghost use Rattle.terrain_store.specs.Stores.{land_of};
 ghost use Rattle.clipmap_words.specs.Frame.{IsFrameInRange, frame_view};
-ghost use Rattle.clipmap_prog.specs.Frame.{frame_outcome, frame_over, frame_reading, levelled};
+ghost use Rattle.clipmap_prog.specs.Frame.{drawn, frame_outcome};
 ghost use Rattle.clipmap_prog.specs.Promise.{Runs};
-ghost use Rattle.clipmap_prog.specs.Reading.{Finds, OnStop};
-ghost use Rattle.run_actions.specs.Runs.{CallsWithin, HadReason};
-ghost use Rattle.clipmap_prog.specs.Sources.{source_view};
-ghost use Rattle.clipmap_prog.specs.Stores.{ByVerdict, Verdict};
+ghost use Rattle.run_actions.specs.Runs.{HadReason, Ran};
+ghost use Rattle.clipmap_prog.specs.Stores.{ByVerdict};
 
-use crate::course::{Course, run_course};
-use crate::fault::Fault;
+use crate::grounds::read_land;
 use crate::output::{ended, write_fault};
 use crate::reading::Stop;
-use crate::sources::{Source, read_sources};
+use clip_runs::{Course, ended_by, run_course};
 use clipmap_words::FrameWords;
-use grid_frames::Viewer;
 use outer_shelf::{Shelf, Sink};
 use run_actions::Halt;
 use std::alloc::Global;
+use std::thread::Threads;
+use terrain_store::Store;
 
-// The inputs, if they may have so many levels as the frame: a store has its own number.
-fn level<'a>(frame: &FrameWords<'_>, source: Source) -> Result<Source, Stop<'a>>
-    ensures found { Finds (λ source. frame_over (frame_view frame.now) (source_view source)) result
-        (levelled (frame_view frame.now) (source_view source)) }
-    ensures reason { OnStop result ⊥ }
-{
-    let asked = frame.levels;
-    let stored = match &source {
-        Source::Tiles(_) => asked,
-        Source::Store(file) => file.header.levels,
-    };
-    if stored != asked {
-        return Err(Stop::Refused(Fault::LevelsDiffer { stored, asked }));
-    }
-    Ok(source)
-}
-
-// The inputs that a frame is drawn over.
-#[tactic(auto, unfolding(crate::specs::Frame::frame_reading))]
-fn read_frame<'a, S: Shelf>(
+// Draws a frame of whole windows over a store.
+fn draw<R: Threads + Sync, S: Shelf, K: Sink>(
+    rt: &R,
     alloc: Global,
+    store: &Store,
+    frame: &FrameWords<'_>,
     shelf: &mut S,
-    frame: &FrameWords<'a>,
-) -> Result<Source, Stop<'a>>
-    requires few_inputs { length frame.now.inputs.now ≤ 64 }
-    ensures found { ByVerdict (frame_view frame.now).inputs (S.told shelf.old).files
-        (λ verdict. IfSome (S.told shelf.old).files
-        (λ files. Finds (λ source. frame_over (frame_view frame.now) (source_view source)) result
-        (frame_reading verdict (frame_view frame.now) files).found)) }
-    ensures calls { (verdict : Verdict) → IfSome (S.told shelf.old).files
-        (λ files. CallsWithin (frame_reading verdict (frame_view frame.now) files).fetches
-        (S.told shelf.old).calls (S.told shelf.new).calls) }
-    ensures reason { OnStop result (Rose (S.told shelf.old).faults (S.told shelf.new).faults) }
-    ensures files_stay { (S.told shelf.new).files ≡ (S.told shelf.old).files }
-    ensures faults_stay { (S.told shelf.old).faults ≤ (S.told shelf.new).faults }
+    out: &mut K,
+) -> Result<(), Halt>
+    requires in_range { IsFrameInRange (frame_view frame.now) }
+    ensures ran { Ran S.leaves 0 (drawn (frame_view frame.now) (land_of store.now)) result
+        (S.told shelf.old) (S.told shelf.new) (K.told out.old) (K.told out.new) }
+    ensures reason { HadReason result (S.told shelf.old) (S.told shelf.new) (K.told out.old) (K.told out.new) }
 {
-    match read_sources(alloc, shelf, frame.inputs) {
-        Ok(source) => level(frame, source),
-        Err(stop) => Err(stop),
-    }
+    let FrameWords {
+        k,
+        x,
+        y,
+        out: name,
+        ..
+    } = *frame;
+    let course = Course::Frame { k, x, y };
+    ended_by(run_course(rt, alloc, store, &course, name, shelf, out))
 }
 
 /// Runs a `frame`. `Ok` is the status: 0 where it is done, and 2 where it is refused and the line of its
 /// fault is written.
-pub(crate) fn run_frame<S: Shelf, K: Sink>(
+pub(crate) fn run_frame<R: Threads + Sync, S: Shelf, K: Sink>(
+    rt: &R,
     alloc: Global,
     frame: &FrameWords<'_>,
     shelf: &mut S,
@@ -77,22 +59,8 @@ pub(crate) fn run_frame<S: Shelf, K: Sink>(
     ensures status { IfOk result (λ status. (status ≡ 0) ⊎ (status ≡ 2)) }
     ensures reason { HadReason result (S.told shelf.old) (S.told shelf.new) (K.told out.old) (K.told out.new) }
 {
-    match read_frame(alloc, shelf, frame) {
-        Ok(source) => {
-            let FrameWords {
-                k,
-                levels,
-                x,
-                y,
-                ..
-            } = *frame;
-            let viewer = Viewer { x, y };
-            let course = Course::Frame { k, viewer };
-            ended(
-                0,
-                run_course(alloc, source.grid(), levels, &course, frame.out, shelf, out),
-            )
-        }
+    match read_land(alloc, shelf, frame.inputs, frame.levels) {
+        Ok(store) => ended(0, draw(rt, alloc, &store, frame, shelf, out)),
         Err(Stop::Refused(fault)) => ended(2, write_fault(alloc, out, fault)),
         Err(Stop::Halted(halt)) => Err(halt),
     }

@@ -4,8 +4,6 @@
 mod check;
 #[cfg(test)]
 mod check_tests;
-mod course;
-mod draw;
 mod fault;
 mod frame;
 mod grounds;

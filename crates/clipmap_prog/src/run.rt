@@ -35,7 +35,7 @@ pub(crate) fn run<R: Threads + Sync, S: Shelf, K: Sink>(
 {
     match command {
         Command::Check(check) => run_check(alloc, check, shelf, out),
-        Command::Frame(frame) => run_frame(alloc, frame, shelf, out),
+        Command::Frame(frame) => run_frame(rt, alloc, frame, shelf, out),
         Command::Info(info) => run_info(alloc, info, shelf, out),
         Command::Pack(pack) => run_pack(alloc, pack, shelf, out),
         Command::PackBy(pack) => run_pack_by(alloc, pack, shelf, out),
