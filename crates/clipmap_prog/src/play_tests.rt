@@ -189,6 +189,21 @@ fn plays_two_levels(rt: HostRuntime) {
     }
 }
 
+// A frame of a book of which nothing is filled has no part that a view can keep.
+#[test]
+fn plays_a_view_of_nothing(rt: HostRuntime) {
+    let script = b"size 4 1\nsee\nbegin 0\nendseen 0\n";
+    let Ok(left) = run_script(&rt, script.as_slice(), &SEA, &NONE) else {
+        panic!(rt; "no memory");
+    };
+    let log = "see: view 0\nbegin 0: frame 0\n\
+        endseen 0: closed 0 kept 0 of 0 vertices 0 triangles 0\n";
+    let text = "# clipmap frame 0\n# viewer 0 0\n# level 0 empty\n# kept 0 of 0\n";
+    assert_eq!(rt; left.status, 0);
+    assert_eq!(rt; left.log.as_slice(), log.as_bytes());
+    assert!(rt; left.frames[0].as_deref() == Some(text.as_bytes()));
+}
+
 // The script is judged before the names of the inputs, and all of them before an input is fetched. Nothing is put.
 #[test]
 fn refuses(rt: HostRuntime) {
