@@ -56,7 +56,7 @@ fn line_of(alloc: Global, seed: u64, k: u8, levels: u8) -> Result<String, AllocE
         0 => moved(alloc, next(seed)),
         1..4 => format!(in alloc; "begin {pass}\n"),
         4..9 => format!(in alloc; "end {pass}\n"),
-        9..12 if k == 4 && levels == 1 => format!(in alloc; "endseen {pass}\n"),
+        9 if k == 4 && levels == 1 => format!(in alloc; "endseen {pass}\n"),
         9..12 => format!(in alloc; "end {pass}\n"),
         12 => format!(in alloc; "see 1 0 -1 {pass} 0 1 0 {level}\n"),
         13..30 => format!(in alloc; "claim {pass}\n"),
@@ -136,6 +136,8 @@ fn random_scripts(rt: HostRuntime) -> Result<(), Fail> {
     // Whole frames, and answers of each kind.
     let drawn = count(&log, ": closed ", "triangles 0");
     assert!(rt; drawn > 20, "{drawn}");
+    let kept = count(&log, " kept ", "triangles 0");
+    assert!(rt; kept > 0, "{kept}");
     let answers = [
         ": job ",
         ": idle",
