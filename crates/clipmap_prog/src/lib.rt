@@ -2,33 +2,21 @@
 #![tactic(auto)]
 
 mod check;
-#[cfg(test)]
-mod check_tests;
 mod fault;
 mod frame;
 mod grounds;
 mod info;
 mod inputs;
-#[cfg(test)]
-mod level_tests;
 mod output;
 mod pack;
 mod play;
-#[cfg(test)]
-mod play_tests;
 mod program;
 mod reading;
 mod run;
 mod sources;
 mod store_file;
-#[cfg(test)]
-mod store_tests;
 mod stored;
-#[cfg(test)]
-mod tests;
 mod tile_files;
-#[cfg(test)]
-mod tile_tests;
 mod top;
 mod verdicts;
 

@@ -1,4 +1,5 @@
-//! Trials of the whole program: failing calls, and input that is cut or changed. Everything here is a test.
+//! Trials of the whole program: faulty words, failing calls, and input that is cut or changed. Everything here is a
+//! test.
 #![tactic(auto)]
 
 #[cfg(test)]
@@ -19,3 +20,5 @@ mod texts;
 mod tiles;
 #[cfg(test)]
 mod trial;
+#[cfg(test)]
+mod words;

@@ -25,8 +25,8 @@ fn owned(alloc: Global, words: &[&str]) -> Result<Vec<String>, AllocError> {
     Ok(all)
 }
 
-// A shelf of files with these names and bytes, whose calls of these numbers fail.
-fn shelf_of(
+/// A shelf of files with these names and bytes, whose calls of these numbers fail.
+pub(crate) fn shelf_of(
     alloc: Global,
     table: &[(&str, &[u8])],
     failing: &[u64],

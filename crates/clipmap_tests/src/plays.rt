@@ -1,13 +1,11 @@
 //! Worked examples of `play`, over a shelf and a sink in memory.
-use crate::clipmap;
-use crate::tests::{TILE, line, owned, ran_over, shelf_of};
+use crate::runs::{NINE, TILE, line, owned, ran_over, shelf_of};
+use clipmap_prog::clipmap;
 use outer_shelf::{MemorySink, NoMemory};
 use std::alloc::Global;
 use std::thread::Threads;
 
-// The 3 × 3 tile of the heights 1 to 9, and the one of the height 0.
-const NINE: [u8; 18] = [0, 1, 0, 2, 0, 3, 0, 4, 0, 5, 0, 6, 0, 7, 0, 8, 0, 9];
-
+// The 3 × 3 tile of the height 0.
 const SEA: [u8; 18] = [0; 18];
 
 // The exact store of two levels of the tile with 30000 in the middle.
@@ -16,28 +14,29 @@ const STORE: [u8; 33] = [
     0xff, 0xff, 0xff, 0xfc, 0xea, 0x60, 0x00,
 ];
 
-// What a play left: its status, its log, and the first two frames.
+/// What a play left: its status, its log, and the first two frames.
 #[derive(Drop)]
-struct Played {
-    status: u8,
-    log: Vec<u8>,
-    frames: [Option<Vec<u8>>; 2],
+pub(crate) struct Played {
+    pub(crate) status: u8,
+    pub(crate) log: Vec<u8>,
+    pub(crate) frames: [Option<Vec<u8>>; 2],
 }
 
-// The calls that fail in a run.
+/// The calls that fail in a run.
 #[derive(Clone, Copy)]
-struct Failing<'a> {
-    shelf: &'a [u64],
-    sink: &'a [u64],
+pub(crate) struct Failing<'a> {
+    pub(crate) shelf: &'a [u64],
+    pub(crate) sink: &'a [u64],
 }
 
-const NONE: Failing<'static> = Failing {
+/// No call fails.
+pub(crate) const NONE: Failing<'static> = Failing {
     shelf: &[],
     sink: &[],
 };
 
-// Runs the words over these files.
-fn ran<R: Threads + Sync + AllocGlobal>(
+/// Runs the words over these files.
+pub(crate) fn ran<R: Threads + Sync + AllocGlobal>(
     rt: &R,
     words: &[&str],
     files: &[(&str, &[u8])],

@@ -1,6 +1,6 @@
 //! Worked examples of verdicts, over a shelf and a sink in memory.
-use crate::tests::{Aftermath, TILE, owned, ran_over, shelf_of};
-use crate::{TEXT_LIMIT, clipmap};
+use crate::runs::{Aftermath, TILE, owned, ran_over, shelf_of};
+use clipmap_prog::{TEXT_LIMIT, clipmap};
 use outer_shelf::{MemoryShelf, MemorySink, NoMemory, are_names_distinct};
 use std::alloc::{AllocError, Global};
 use std::thread::Threads;
@@ -166,27 +166,6 @@ fn refused_words_and_names(rt: HostRuntime) {
         };
         assert_eq!(rt; left.status, status, "{output}");
         assert!(rt; left.output.as_slice() == output.as_bytes(), "{output}");
-    }
-}
-
-// A failed fetch, and failed writes of a verdict and of a fault.
-#[test]
-fn failing_calls_of_checks(rt: HostRuntime) {
-    let flat = "# clipmap frame 0\n# viewer 0 0\n# level 0 empty\n";
-    let none = [].as_slice();
-    let table = [
-        (flat, [0].as_slice(), none, 3),
-        (flat, none, [0].as_slice(), 4),
-        ("", none, [0].as_slice(), 4),
-    ];
-    for (text, shelf_failing, sink_failing, status) in table {
-        let files = [("out.obj", text.as_bytes())];
-        let words = ["check", "out.obj"];
-        let Ok(left) = ran_over(&rt, &words, &files, shelf_failing, sink_failing) else {
-            panic!(rt; "no memory");
-        };
-        assert_eq!(rt; left.status, status);
-        assert!(rt; left.output.is_empty());
     }
 }
 

@@ -1,6 +1,6 @@
 //! Worked examples of stores, over a shelf and a sink in memory.
-use crate::clipmap;
-use crate::tests::{TILE, owned, shelf_of};
+use crate::runs::{TILE, owned, shelf_of};
+use clipmap_prog::clipmap;
 use height_pyramid::Grid;
 use outer_shelf::{MemorySink, NoMemory};
 use std::alloc::Global;
@@ -22,21 +22,10 @@ fn run<R: Threads + Sync + AllocGlobal>(
     words: &[&str],
     files: &[(&str, &[u8])],
 ) -> Result<Left, NoMemory> {
-    run_failing(rt, words, files, &[], &[])
-}
-
-// The same, where calls of these numbers fail.
-fn run_failing<R: Threads + Sync + AllocGlobal>(
-    rt: &R,
-    words: &[&str],
-    files: &[(&str, &[u8])],
-    shelf_failing: &[u64],
-    sink_failing: &[u64],
-) -> Result<Left, NoMemory> {
     let alloc = rt.alloc();
     let words = owned(alloc, words)?;
-    let mut shelf = shelf_of(alloc, files, shelf_failing)?;
-    let mut sink = MemorySink::new(alloc, Vec::from_slice(alloc, sink_failing)?);
+    let mut shelf = shelf_of(alloc, files, &[])?;
+    let mut sink = MemorySink::new(alloc, Vec::new(alloc));
     let status = clipmap(rt, alloc, words.as_slice(), &mut shelf, &mut sink);
     let file = match shelf.file("o") {
         Some(bytes) => Some(Vec::from_slice(alloc, bytes)?),
@@ -280,46 +269,6 @@ fn faulty_stores(rt: HostRuntime) {
     }
 }
 
-// A front of a store is cut short where it ends, whatever its length.
-#[test]
-fn cut_stores(rt: HostRuntime) {
-    for length in 0..33usize {
-        let Ok(left) = told(&rt, &FIRST[..length]) else {
-            panic!(rt; "no memory");
-        };
-        let want = format!(in rt.alloc(); "fault: store CutShort {length}\n").expect(&rt, "memory");
-        assert_eq!(rt; left.status, 2, "{length}");
-        assert!(rt; left.output.as_slice() == want.as_bytes(), "{length}");
-    }
-}
-
-// Each byte of the first store changed to each other byte: `info` answers 0 with three lines, or 2 with one.
-#[test]
-fn stores_with_one_byte_changed(rt: HostRuntime) {
-    let mut sound = 0u32;
-    for place in 0..33usize {
-        for change in 1..=255u8 {
-            let mut bytes = FIRST;
-            bytes[place] ^= change;
-            let Ok(left) = told(&rt, &bytes) else {
-                panic!(rt; "no memory");
-            };
-            let text = left.output.as_slice();
-            let lines = text.iter().filter(|byte| **byte == b'\n').count();
-            let fault = text.starts_with(b"fault: store ".as_slice());
-            match left.status {
-                0 => {
-                    assert!(rt; lines == 3 && !fault, "{place} {change}");
-                    sound = sound.saturating_add(1);
-                }
-                2 => assert!(rt; lines == 1 && fault, "{place} {change}"),
-                _ => panic!(rt; "another status"),
-            }
-        }
-    }
-    assert!(rt; sound > 0);
-}
-
 // Which inputs each command takes, and what comes first.
 #[test]
 fn refused_stores(rt: HostRuntime) {
@@ -402,38 +351,6 @@ fn draws_over_a_store(rt: HostRuntime) {
     assert_eq!(rt; left.status, 2);
     assert!(rt; left.output.as_slice() == b"fault: LevelsDiffer 2 3\n".as_slice());
     assert!(rt; left.file.is_none());
-}
-
-// Calls that fail: what was put or written before stands.
-#[test]
-fn failing_calls_of_stores(rt: HostRuntime) {
-    let tile = peak(1);
-    let files = [(TILE, tile.as_slice()), ("a.gct", FIRST.as_slice())];
-    let pack = ["pack", "2", "o", TILE].as_slice();
-    let by_step = ["packq", "2", "3", "o", "a.gct"].as_slice();
-    let info = ["info", "a.gct"].as_slice();
-    let none = [].as_slice();
-    let table = [
-        (pack, [0].as_slice(), none, 3, 0, false),
-        (pack, [1].as_slice(), none, 3, 0, false),
-        (pack, none, [0].as_slice(), 4, 0, true),
-        (by_step, [0].as_slice(), none, 3, 0, false),
-        (by_step, [1].as_slice(), none, 3, 0, false),
-        (by_step, none, [0].as_slice(), 4, 0, true),
-        (info, [0].as_slice(), none, 3, 0, false),
-        (info, none, [0].as_slice(), 4, 0, false),
-        (info, none, [1].as_slice(), 4, 1, false),
-        (info, none, [2].as_slice(), 4, 2, false),
-    ];
-    for (words, shelf_failing, sink_failing, status, written, stands) in table {
-        let Ok(left) = run_failing(&rt, words, &files, shelf_failing, sink_failing) else {
-            panic!(rt; "no memory");
-        };
-        let lines = left.output.iter().filter(|byte| **byte == b'\n').count();
-        assert_eq!(rt; left.status, status);
-        assert_eq!(rt; lines, written);
-        assert_eq!(rt; left.file.is_some(), stands);
-    }
 }
 
 // 100 × 67 heights drawn at random, from the lowest to the highest of 16 bits.

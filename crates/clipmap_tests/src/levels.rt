@@ -1,6 +1,6 @@
 //! Worked frames of several levels.
-use crate::tests::{Aftermath, TILE, line, ran_over};
-use crate::tile_tests::sea;
+use crate::runs::{Aftermath, TILE, line, ran_over};
+use crate::tiles::sea;
 
 // Two whole windows over a flat tile: the first stitch is the triangle of the first three vertices.
 #[test]

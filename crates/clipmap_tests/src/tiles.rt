@@ -1,5 +1,5 @@
 //! Worked examples of sets of tiles, over a shelf and a sink in memory.
-use crate::tests::{Aftermath, line, ran_over};
+use crate::runs::{Aftermath, line, ran_over};
 use std::alloc::{AllocError, Global};
 use std::thread::Threads;
 
@@ -214,39 +214,6 @@ fn faulty_sets(rt: HostRuntime) {
         assert_eq!(rt; left.status, 2, "{want}");
         assert!(rt; left.output.as_slice() == want.as_bytes(), "{want}");
         assert!(rt; left.file.is_none(), "{want}");
-    }
-}
-
-// Each file is fetched by one call, and none before all names are judged.
-#[test]
-fn failing_fetches(rt: HostRuntime) {
-    let tile = flat(1);
-    let files = [
-        ("N00E000.hgt", tile.as_slice()),
-        ("N00E001.hgt", tile.as_slice()),
-    ];
-    let table = [
-        ("N00E001.hgt", [0], 3),
-        ("N00E001.hgt", [1], 3),
-        ("N00E001.hgt", [2], 3),
-        ("N00E001.hgt", [3], 0),
-        ("N00E00.hgt", [0], 2),
-    ];
-    for (second, failing, status) in table {
-        let words = [
-            "frame",
-            "4",
-            "1",
-            "1",
-            "1",
-            "out.obj",
-            "N00E000.hgt",
-            second,
-        ];
-        let Ok(left) = ran_over(&rt, &words, &files, &failing, &[]) else {
-            panic!(rt; "no memory");
-        };
-        assert_eq!(rt; left.status, status, "{second}");
     }
 }
 
