@@ -1,4 +1,5 @@
 pub mod SeenRows
+pub mod WholeRows
 pub mod Paints
 pub mod AnswersOf
 pub mod Standing

@@ -25,13 +25,13 @@ use Rattle.clip_book.specs.Jobs.{needed, IsPatch}
 use Rattle.clip_book.specs.Reading.{IsBlockPlace, IsInBlock, IsSeenPatch, IsReadable}
 use Rattle.clip_book.specs.Tiles.{IsCorner, AreHome, seen}
 
-place_fits : (z : ℤ) (k : ℕ) → k ≤ 6 → IsCorner z → SFits w32 (z +ℤ pos k)
+pub place_fits : (z : ℤ) (k : ℕ) → k ≤ 6 → IsCorner z → SFits w32 (z +ℤ pos k)
 place_fits z k few p =
     let l = p.low in
     let h = p.high in
     grind (arith, ints)
 
-place_itself : (z : ℤ) → IsCorner z → SFits w32 z
+pub place_itself : (z : ℤ) → IsCorner z → SFits w32 z
 place_itself z p =
     let l = p.low in
     let h = p.high in
@@ -131,7 +131,7 @@ seen_none : (grid : Grid) (region : Region) (i j : ℤ) → contains region i j 
 unfolding seen
 seen_none grid region i j e = ap (λ (b : Bool). cond b (height_at grid i j) (pos 0)) e
 
-seen_some : (grid : Grid) (region : Region) (i j : ℤ) → contains region i j ≡ true → seen grid region i j ≡ height_at grid i j
+pub seen_some : (grid : Grid) (region : Region) (i j : ℤ) → contains region i j ≡ true → seen grid region i j ≡ height_at grid i j
 unfolding seen
 seen_some grid region i j e = ap (λ (b : Bool). cond b (height_at grid i j) (pos 0)) e
 

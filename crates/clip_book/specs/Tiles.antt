@@ -1,5 +1,5 @@
 -- The tiles of all levels, and what was handed out.
-use Rattle.std.specs.Prelude.{◌≡◌, ℕ, ◌+◌, ◌^◌, ℤ, pos, neg_ℤ, ◌≤ℤ◌, List, [], length, slice_index_or, Option, Some, None, IsTrue, if◌then◌else◌}
+use Rattle.std.specs.Prelude.{◌≡◌, ℕ, ◌+◌, ◌^◌, ◌<◌, ℤ, pos, neg_ℤ, ◌+ℤ◌, ◌≤ℤ◌, List, [], length, slice_index_or, Option, Some, None, IsTrue, if◌then◌else◌}
 use Rattle.plan_model.specs.declared.tiles.TileId.{TileId}
 use Rattle.torus_grid.specs.Grids.{Grid, tile_at, is_home, height_at, SameBut}
 use Rattle.clip_regions.specs.declared.region.Region.{Region}
@@ -69,3 +69,7 @@ seen grid region i j = if contains region i j then height_at grid i j else pos 0
 pub record IsCorner (z : ℤ) : Type 0 where
   pub low : neg_ℤ (pos (2 ^ 30 + 16)) ≤ℤ z
   pub high : z ≤ℤ pos (2 ^ 30 + 16)
+
+-- the seven cells of a row from column i0 on lie in the region
+abbrev pub HoldsRow : Region → ℤ → ℤ → Type 0
+HoldsRow region i0 j = (a : ℕ) → a < 7 → IsTrue (contains region (i0 +ℤ pos a) j)

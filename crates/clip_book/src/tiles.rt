@@ -1,11 +1,11 @@
 //! The tiles of all levels of a book.
 
-ghost use Rattle.std.specs.Prelude.{◌≡◌, ℕ, ◌+◌, ◌<◌, ◌≤◌, pos, ◌+ℤ◌, List, [], length, replicate, slice_index_or, slice_set, Some, None, IsOk, IfOk, IsTrue};
+ghost use Rattle.std.specs.Prelude.{◌≡◌, ℕ, ◌+◌, ◌<◌, ◌≤◌, pos, ◌+ℤ◌, List, [], ◌++◌, length, replicate, slice_index_or, slice_set, Some, None, IsOk, IfOk, IsTrue};
 ghost use Rattle.plan_model.specs.Limits.{IsSize};
 ghost use Rattle.plan_model.specs.Blocks.{tile_of_cell};
 ghost use Rattle.torus_grid.specs.Grids.{tile_at, is_home, has_tile, height_at, new_grid};
 ghost use Rattle.book_cells.specs.Cells.{GoesOut, SameCellsBut};
-ghost use Rattle.clip_book.specs.Tiles.{grid_on, handed_to, cells_of, SameSizes, IsTakenFrom, IsPutIn, AreHome, IsCorner, seen};
+ghost use Rattle.clip_book.specs.Tiles.{grid_on, handed_to, cells_of, SameSizes, IsTakenFrom, IsPutIn, AreHome, IsCorner, HoldsRow, seen};
 
 use clip_regions::Region;
 use four_point::Patch;
@@ -114,8 +114,8 @@ fn seen(torus: &Torus, region: Region, i: i32, j: i32) -> i16
     }
 }
 
-// The heights of seven cells of a row, from column `i0` on.
-fn seen_row(torus: &Torus, region: Region, i0: i32, j: i32) -> [i16; 7]
+// The heights of seven cells of a row, from column `i0` on, each found by itself.
+fn clipped_row(torus: &Torus, region: Region, i0: i32, j: i32) -> [i16; 7]
     requires home { AreHome torus.now region }
     requires column { IsCorner i0 }
     ensures { (a : ℕ) → a < 7 → slice_index_or result a (pos 0) ≡ seen torus.now region (i0 +ℤ pos a) j }
@@ -129,6 +129,61 @@ fn seen_row(torus: &Torus, region: Region, i0: i32, j: i32) -> [i16; 7]
         seen(torus, region, i0 + 5, j),
         seen(torus, region, i0 + 6, j),
     ]
+}
+
+// The height at a place of two runs of heights, one after the other.
+fn height_of(west: &[i16], east: &[i16], n: usize) -> i16
+    requires { n < length west.now + length east.now }
+    ensures { result ≡ slice_index_or (west.now ++ east.now) n (pos 0) }
+{
+    if n < west.len() {
+        west[n]
+    } else {
+        east[n - west.len()]
+    }
+}
+
+// The first seven of two runs of heights, one after the other.
+fn first_seven(west: &[i16], east: &[i16]) -> [i16; 7]
+    requires { 7 ≤ length west.now + length east.now }
+    ensures { (a : ℕ) → a < 7 → slice_index_or result a (pos 0) ≡ slice_index_or (west.now ++ east.now) a (pos 0) }
+{
+    [
+        height_of(west, east, 0),
+        height_of(west, east, 1),
+        height_of(west, east, 2),
+        height_of(west, east, 3),
+        height_of(west, east, 4),
+        height_of(west, east, 5),
+        height_of(west, east, 6),
+    ]
+}
+
+// The heights of seven cells of a row, from column `i0` on, which all lie in a region: those of one tile, and
+// then those of the next one.
+fn whole_row(torus: &Torus, region: Region, i0: i32, j: i32) -> [i16; 7]
+    requires home { AreHome torus.now region }
+    requires column { IsCorner i0 }
+    requires inside { HoldsRow region i0 j }
+    ensures { (a : ℕ) → a < 7 → slice_index_or result a (pos 0) ≡ seen torus.now region (i0 +ℤ pos a) j }
+{
+    let west = torus.row(i0, j);
+    let next = west.len().min(6) as i32;
+    let east = torus.row(i0 + next, j);
+    first_seven(west, east)
+}
+
+// The heights of seven cells of a row, from column `i0` on.
+fn seen_row(torus: &Torus, region: Region, i0: i32, j: i32) -> [i16; 7]
+    requires home { AreHome torus.now region }
+    requires column { IsCorner i0 }
+    ensures { (a : ℕ) → a < 7 → slice_index_or result a (pos 0) ≡ seen torus.now region (i0 +ℤ pos a) j }
+{
+    if region.contains(i0, j) && region.contains(i0 + 6, j) {
+        whole_row(torus, region, i0, j)
+    } else {
+        clipped_row(torus, region, i0, j)
+    }
 }
 
 // The patch of seven by seven cells from column `i0` and row `j0` on.
