@@ -7,6 +7,7 @@ mod jobs;
 mod laws;
 mod patches;
 mod tiles;
+mod told;
 #[cfg(test)]
 mod worked;
 
@@ -16,3 +17,6 @@ pub use book_plan::{FrameNote, NoMemory};
 pub use jobs::{FilledJob, Job};
 pub use laws::read_by_places_are_listed;
 pub use plan_model::{Answer, Entry, Event};
+pub use told::{
+    told_of_begun, told_of_claim, told_of_ended, told_of_given, told_of_job, told_of_published,
+};

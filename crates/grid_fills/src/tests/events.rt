@@ -7,7 +7,10 @@ ghost use Rattle.clip_book.specs.Books.{IsJobOf};
 ghost use Rattle.grid_fills.specs.Holding.{HoldsJobs};
 
 use crate::fill_job;
-use clip_book::{Begun, Book, Claimed, Ended, Given, Job, Published};
+use clip_book::{
+    Begun, Book, Claimed, Ended, Job, told_of_begun, told_of_claim, told_of_ended, told_of_given,
+    told_of_job, told_of_published,
+};
 use height_pyramid::Grid;
 use plan_histories::{moves_leave_parts, others_keep_parts, publications_leave_parts};
 use plan_model::{Answer, Event, refusals_change_nothing};
@@ -35,20 +38,7 @@ fn publish(book: &mut Book, jobs: &[Option<Job>], level: u8) -> Answer
     ensures jobs { HoldsJobs book.new jobs.now }
 {
     publications_leave_parts();
-    match book.publish(level) {
-        Published::Grown(region) => Answer::Grown { region },
-        Published::Waiting { pieces } => Answer::Waiting { pieces },
-        Published::Whole => Answer::Whole,
-    }
-}
-
-// What the beginning of a frame is answered.
-fn said_of_begun(begun: &Begun) -> Answer {
-    match *begun {
-        Begun::Frame { number, actives: _ } => Answer::Frame { number },
-        Begun::Held { level, tile, pass } => Answer::Held { level, tile, pass },
-        Begun::HasWork => Answer::HasWork,
-    }
+    told_of_published(book.publish(level))
 }
 
 // A pass without a job begins a frame.
@@ -62,7 +52,7 @@ fn begin(book: &mut Book, jobs: &[Option<Job>], pass: u8) -> Answer
 {
     others_keep_parts();
     let begun = book.begin(pass);
-    said_of_begun(&begun)
+    told_of_begun(&begun)
 }
 
 // A pass with a job is refused a frame.
@@ -89,10 +79,7 @@ fn end(book: &mut Book, jobs: &[Option<Job>], pass: u8) -> Answer
     ensures jobs { HoldsJobs book.new jobs.now }
 {
     others_keep_parts();
-    match book.end(pass) {
-        Ended::Closed { number } => Answer::Closed { number },
-        Ended::NoFrame => Answer::NoFrame,
-    }
+    told_of_ended(book.end(pass))
 }
 
 // A pass with a job has no frame to end.
@@ -109,29 +96,6 @@ fn end_in_vain(rt: &impl Abort, book: &mut Book, jobs: &[Option<Job>], pass: u8)
     }
 }
 
-// The answer that tells of a job.
-fn said_of_job(job: &Job) -> Answer {
-    Answer::Job {
-        level: job.level(),
-        bx: job.bx(),
-        by: job.by(),
-        cells: job.cells(),
-        plan: job.plan(),
-    }
-}
-
-// The answer of a claim that gave no job.
-fn said_of_refusal(claimed: Claimed) -> Answer {
-    match claimed {
-        Claimed::Job(job) => said_of_job(&job),
-        Claimed::Idle => Answer::Idle,
-        Claimed::Ripe { level } => Answer::Ripe { level },
-        Claimed::Busy { level, tile, frame } => Answer::Busy { level, tile, frame },
-        Claimed::Held { level, tile, pass } => Answer::Held { level, tile, pass },
-        Claimed::HasWork => Answer::HasWork,
-    }
-}
-
 // A pass without a job claims, and keeps the job that it is given.
 fn claim(book: &mut Book, jobs: &mut [Option<Job>], pass: u8) -> Answer
     requires pass { pass < 16 }
@@ -145,11 +109,11 @@ fn claim(book: &mut Book, jobs: &mut [Option<Job>], pass: u8) -> Answer
     others_keep_parts();
     match book.claim(pass) {
         Claimed::Job(job) => {
-            let answer = said_of_job(&job);
+            let answer = told_of_job(&job);
             jobs[pass as usize] = Some(job);
             answer
         }
-        refused => said_of_refusal(refused),
+        refused => told_of_claim(&refused),
     }
 }
 
@@ -205,10 +169,7 @@ fn give_back(grid: &Grid, book: &mut Book, jobs: &[Option<Job>], pass: u8, job: 
     others_keep_parts();
     let _patch = job.patch();
     let filled = fill_job(grid, job);
-    match book.give_back(pass, filled) {
-        Given::Kept => Answer::Kept,
-        Given::Stale { plan, now } => Answer::Stale { plan, now },
-    }
+    told_of_given(book.give_back(pass, filled))
 }
 
 /// Takes an event of a pass that a book can take, and tells the answer.
