@@ -1,4 +1,4 @@
-//! Clips of a small terrain: passes, a full journal, and two threads.
+//! Clips of a small terrain: passes and a full journal.
 
 ghost use Rattle.std.specs.Prelude.{◌≡◌, ◌<◌, IfOk};
 
