@@ -47,8 +47,8 @@ fn moved(alloc: Global, seed: u64) -> Result<String, AllocError> {
     format!(in alloc; "move {x} {y}\n")
 }
 
-// A line of a play script of so many levels, or two. The plain text of what a view keeps takes long, so views are looked
-// through where there is one level of the least size.
+// A line of a play script of so many levels, or two. The plain text of what a view keeps takes long, so views are
+// looked through where there is one level of the least size.
 fn line_of(alloc: Global, seed: u64, k: u8, levels: u8) -> Result<String, AllocError> {
     let pass = below(next(seed), 9);
     let level = below(next(seed), u64::from(levels));
