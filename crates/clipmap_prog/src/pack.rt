@@ -33,8 +33,10 @@ fn write_store<S: Shelf, K: Sink>(
         (S.told shelf.old) (S.told shelf.new) (K.told out.old) (K.told out.new) }
     ensures reason { HadReason result (S.told shelf.old) (S.told shelf.new) (K.told out.old) (K.told out.new) }
 {
-    put(shelf, name, bytes)?;
-    write(out, line.as_bytes())
+    match put(shelf, name, bytes) {
+        Ok(()) => write(out, line.as_bytes()),
+        Err(halt) => Err(halt),
+    }
 }
 
 // Puts a grid's exact store of so many levels under a name, and then writes its line.

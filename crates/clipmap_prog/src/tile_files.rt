@@ -58,9 +58,13 @@ fn judge_names<'a>(alloc: Global, names: &'a [String]) -> Result<Vec<Named<'a>>,
 {
     let mut judged = Vec::new(alloc);
     for name in names {
-        let named = judge_name(name.as_str())?;
-        if append(&mut judged, named).is_err() {
-            return Err(Stop::Halted(Halt::NoMemory));
+        match judge_name(name.as_str()) {
+            Ok(named) => {
+                if append(&mut judged, named).is_err() {
+                    return Err(Stop::Halted(Halt::NoMemory));
+                }
+            }
+            Err(stop) => return Err(stop),
         }
     }
     Ok(judged)
@@ -125,9 +129,13 @@ fn fetch_tiles<'a, S: Shelf>(
 {
     let mut tiles = Vec::new(alloc);
     for one in named {
-        let tile = fetch_tile(alloc, shelf, one)?;
-        if append(&mut tiles, tile).is_err() {
-            return Err(Stop::Halted(Halt::NoMemory));
+        match fetch_tile(alloc, shelf, one) {
+            Ok(tile) => {
+                if append(&mut tiles, tile).is_err() {
+                    return Err(Stop::Halted(Halt::NoMemory));
+                }
+            }
+            Err(stop) => return Err(stop),
         }
     }
     Ok(tiles)
@@ -192,8 +200,10 @@ fn read_named<'a, S: Shelf>(
     ensures files_stay { (S.told shelf.new).files ≡ (S.told shelf.old).files }
     ensures faults_stay { (S.told shelf.old).faults ≤ (S.told shelf.new).faults }
 {
-    let tiles = fetch_tiles(alloc, shelf, named)?;
-    join_tiles(alloc, tiles)
+    match fetch_tiles(alloc, shelf, named) {
+        Ok(tiles) => join_tiles(alloc, tiles),
+        Err(stop) => Err(stop),
+    }
 }
 
 /// Tiles by their names. All names are judged before any file is fetched.
@@ -212,6 +222,8 @@ pub(crate) fn read_tiles<'a, S: Shelf>(
     ensures files_stay { (S.told shelf.new).files ≡ (S.told shelf.old).files }
     ensures faults_stay { (S.told shelf.old).faults ≤ (S.told shelf.new).faults }
 {
-    let named = judge_names(alloc, names)?;
-    read_named(alloc, shelf, named.as_slice())
+    match judge_names(alloc, names) {
+        Ok(named) => read_named(alloc, shelf, named.as_slice()),
+        Err(stop) => Err(stop),
+    }
 }
