@@ -1,0 +1,3 @@
+mod After
+mod Drawn
+mod Waits
