@@ -56,7 +56,7 @@ fn line_of(alloc: Global, seed: u64, k: u8, levels: u8) -> Result<String, AllocE
         0 => moved(alloc, next(seed)),
         1..4 => format!(in alloc; "begin {pass}\n"),
         4..9 => format!(in alloc; "end {pass}\n"),
-        9 if k == 4 && levels == 1 => format!(in alloc; "endseen {pass}\n"),
+        9..11 if k == 4 && levels == 1 => format!(in alloc; "endseen {pass}\n"),
         9..12 => format!(in alloc; "end {pass}\n"),
         12 => format!(in alloc; "see 1 0 -1 {pass} 0 1 0 {level}\n"),
         13..30 => format!(in alloc; "claim {pass}\n"),
@@ -129,6 +129,7 @@ fn count(log: &[u8], answer: &str, end: &str) -> usize {
 fn random_scripts(rt: HostRuntime) -> Result<(), Fail> {
     let mut log = Vec::new(rt.alloc());
     log.extend_from_slice(&compare(&rt, 4, 1, 1)?)?;
+    log.extend_from_slice(&compare(&rt, 4, 1, 4)?)?;
     log.extend_from_slice(&compare(&rt, 4, 2, 2)?)?;
     log.extend_from_slice(&compare(&rt, 4, 3, 3)?)?;
     log.extend_from_slice(&compare(&rt, 4, 4, 5)?)?;
