@@ -41,7 +41,9 @@ use Rattle.gate_rule.specs.declared.view.View.{View}
 use Rattle.gate_rule.specs.declared.journal.Desk.{Desk}
 use Rattle.gate_rule.proofs.TurnSteps.{long_enough}
 use Rattle.gate_rule.proofs.Seats.{part_since}
-use Rattle.clip_gate.specs.Passes.{PassView, pass_of, is_free, part_of, IsPass}
+use Rattle.clip_gate.specs.declared.part.Part.{Part}
+use Rattle.clip_gate.specs.Parts.{IsPart}
+use Rattle.clip_gate.specs.Passes.{PassView, pass_of, part_of, IsPass}
 use Rattle.clip_gate.specs.Calls.{HasMade, HasWaited, IsFull, IsFilledOfPass, GivesJob, GivesActives, places_to_end}
 
 -- a pass's part is the same after entries of others
@@ -102,8 +104,8 @@ made table table' m seat after desk new x asked same r e n own room kept =
 view_left : (m seat after : Sat) (desk : Desk) (e : Entered m seat desk) → Left seat after → after.0 ≡ rested m.0 e.log m.0.heights
 view_left m seat after desk e l = ap (λ (u : Sat). u.0) l.seat ∙ ap (λ (u : Sat). rested u.0 u.0.seen u.0.heights) e.seat
 
-pub waited : (table table' : TableId) (m seat after : Sat) (desk : Desk) → table' ≡ table → (e : Entered m seat desk) → Left seat after → HasWaited (pass_of table m.0) (pass_of table' after.0)
-waited table table' m seat after desk same e l =
+pub waited : (table table' : TableId) (m seat after : Sat) (desk : Desk) → table' ≡ table → Rests m → (e : Entered m seat desk) → Left seat after → HasWaited (pass_of table m.0) (pass_of table' after.0)
+waited table table' m seat after desk same r e l =
     let v : View = m.0 in
     let w : View = rested v e.log v.heights in
     let is : after.0 ≡ w = view_left m seat after desk e l in
@@ -112,35 +114,36 @@ waited table table' m seat after desk same e l =
       waited = e.goes_on;
       legal = e.history.legal;
       same = record { clip = refl; number = refl; numbers = refl; left = refl };
+      part = part_now m seat desk r e;
       heights = refl;
     }))
 
-pub full : (table table' : TableId) (m seat after : Sat) (desk : Desk) (asked : ℕ) → table' ≡ table → (e : Entered m seat desk) → Left seat after → 1048576 < desk.taken + asked → IsFull asked (pass_of table m.0) (pass_of table' after.0)
-full table table' m seat after desk asked same e l more =
+pub full : (table table' : TableId) (m seat after : Sat) (desk : Desk) (asked : ℕ) → table' ≡ table → Rests m → (e : Entered m seat desk) → Left seat after → 1048576 < desk.taken + asked → IsFull asked (pass_of table m.0) (pass_of table' after.0)
+full table table' m seat after desk asked same r e l more =
     let was = e.stands.taken in
     let is : after.0 ≡ rested m.0 e.log m.0.heights = view_left m seat after desk e l in
     let places : places_in (ground_of after.0) after.0.seen ≡ places_in (ground_of m.0) e.log = ap (λ (u : View). places_in (ground_of u) u.seen) is in
     let here : 1048576 < places_in (ground_of m.0) e.log + asked = omega arith in
     record {
-      waits = waited table table' m seat after desk same e l;
+      waits = waited table table' m seat after desk same r e l;
       full = subst (λ (l : List Entry). 1048576 < places_in (ground_of m.0) l + asked) (sym (ap (λ (u : View). u.seen) is)) here;
     }
 
 -- ---- the pass is whole again
-pub pass_waited : (table table' : TableId) (m seat after : Sat) (desk : Desk) (number : ℕ) (left : List Bool) (free : Bool) → IsPass table m number left free → (e : Entered m seat desk) → Left seat after → IsPass table' after number left free
-pass_waited table table' m seat after desk number left free p e l =
+pub pass_waited : (table table' : TableId) (m seat after : Sat) (desk : Desk) (number : ℕ) (left : List Bool) (part : Part) → IsPass table m number left part → (e : Entered m seat desk) → Left seat after → IsPass table' after number left part
+pass_waited table table' m seat after desk number left part p e l =
     let v : View = m.0 in
     let is : after.0 ≡ rested v e.log v.heights = view_left m seat after desk e l in
     record {
       rests = l.rests;
       own = p.own ∙ sym (ap (λ (u : View). u.own) is);
       giving = p.giving ∙ sym (ap (λ (u : View). u.left) is);
-      idle = p.idle ∙ ap (λ (q : Pass). not (has_work q)) (sym (part_now m seat desk p.rests e)) ∙ sym (ap (λ (u : View). is_free (pass_of table' u)) is);
+      holds = subst (IsPart part) (sym (part_now m seat desk p.rests e) ∙ sym (ap (λ (u : View). part_of (pass_of table' u)) is)) p.holds;
     }
 
-pub pass_made : (table table' : TableId) (m seat after : Sat) (desk new : Desk) (x : Entry) (number : ℕ) (left : List Bool) (was free : Bool) → IsPass table m number left was → (e : Entered m seat desk) → IsAnswered seat.0 x new → Noted seat after x new
-    → free ≡ not (has_work (pass_at new.book.plan.state x.pass)) → IsPass table' after number left free
-pass_made table table' m seat after desk new x number left was free p e a n is_free_now =
+pub pass_made : (table table' : TableId) (m seat after : Sat) (desk new : Desk) (x : Entry) (number : ℕ) (left : List Bool) (was part : Part) → IsPass table m number left was → (e : Entered m seat desk) → IsAnswered seat.0 x new → Noted seat after x new
+    → IsPart part (pass_at new.book.plan.state x.pass) → IsPass table' after number left part
+pass_made table table' m seat after desk new x number left was part p e a n now =
     let v : View = m.0 in
     let g : Ground = ground_of v in
     let is : after.0 ≡ rested v (e.log ++ x ∷ []) (handed_to new.book.handed v.own) = view_made m seat after desk new x e n in
@@ -153,7 +156,7 @@ pass_made table table' m seat after desk new x number left was free p e a n is_f
       rests = n.rests;
       own = p.own ∙ sym (ap (λ (u : View). u.own) is);
       giving = p.giving ∙ sym (ap (λ (u : View). u.left) is);
-      idle = is_free_now ∙ ap (λ (st : State). not (has_work (pass_at st x.pass))) state ∙ ap (λ (q : ℕ). not (has_work (pass_at (state_in g (e.log ++ x ∷ [])) q))) own ∙ sym (ap (λ (u : View). is_free (pass_of table' u)) is);
+      holds = subst (IsPart part) (ap (λ (st : State). pass_at st x.pass) state ∙ ap (λ (q : ℕ). pass_at (state_in g (e.log ++ x ∷ [])) q) own ∙ sym (ap (λ (u : View). part_of (pass_of table' u)) is)) now;
     }
 
 -- ---- how few moves and frames there are
@@ -203,8 +206,8 @@ moves_few : (log : List Entry) → moves log ≤ length log
 unfolding moves
 moves_few log = count_by-le-length (λ (entry : Entry). is_move entry.event) log
 
-pub low_number : (table : TableId) (m : Sat) (number : ℕ) (left : List Bool) (free : Bool) → IsPass table m number left free → number < 16
-low_number table m number left free p = let a = p.own in let b = p.rests.history.low in omega arith
+pub low_number : (table : TableId) (m : Sat) (number : ℕ) (left : List Bool) (part : Part) → IsPass table m number left part → number < 16
+low_number table m number left part p = let a = p.own in let b = p.rests.history.low in omega arith
 
 -- ---- the book's own events
 -- a move and a publication are those of any pass

@@ -20,7 +20,9 @@ use Rattle.gate_rule.specs.declared.view.View.{View}
 use Rattle.gate_rule.specs.declared.journal.Desk.{Desk}
 use Rattle.gate_rule.proofs.Moved.{no_entry_of_none}
 use Rattle.gate_rule.proofs.Seats.{part_since}
-use Rattle.clip_gate.specs.Passes.{PassView, pass_of, is_free, HasAllNumbers, IsPass}
+use Rattle.clip_gate.specs.declared.part.Part.{Part}
+use Rattle.clip_gate.specs.Parts.{IsPart, no_part}
+use Rattle.clip_gate.specs.Passes.{PassView, pass_of, part_of, HasAllNumbers, IsPass, IsSound}
 use Rattle.clip_gate.specs.Calls.{IsSplit, IsJoined}
 use Rattle.clip_gate.specs.Closing.{Closes}
 
@@ -44,6 +46,9 @@ free_part Free e = refl
 free_part (Fills note) e = absurd (true≢false (sym e))
 free_part (Draws frame) e = absurd (true≢false (sym e))
 
+none_held : IsPart no_part Free
+none_held = record { idle = refl; frame = refl }
+
 -- ---- the start
 pub first_stands : (land shape : Land) (k : ℕ) (desk : Desk) → land ≡ shape → desk.book.plan ≡ started k shape → desk.book.land ≡ shape → desk.journal ≡ [] → desk.taken ≡ 0 → Stands (record { land = land; size = k }) [] desk.book.handed desk
 unfolding moves
@@ -58,28 +63,24 @@ first_stands land shape k desk same plan book journal taken =
       taken = taken ∙ sym (no_entry_no_place k shape.levels);
     })
 
-pub first_whole : (table : TableId) (g : Ground) (m : Sat) (left : List Bool) → Rests m → m ≡ (first_view g, []) → left ≡ all_but_first → IsPass table m 0 left true
+pub first_whole : (table : TableId) (g : Ground) (m : Sat) (left : List Bool) → Rests m → m ≡ (first_view g, []) → left ≡ all_but_first → IsPass table m 0 left no_part
 first_whole table g m left rests is flags = record {
   rests = rests;
   own = sym (ap (λ (u : Sat). u.0.own) is);
   giving = flags ∙ sym (ap (λ (u : Sat). u.0.left) is);
-  idle =
-      sym (ap (λ (w : Pass). not (has_work w)) (no_entry_no_part g.size g.land.levels [] 0 (no_entry_of_none 0)))
-      ∙ sym (ap (λ (u : Sat). is_free (pass_of table u.0)) is);
+  holds = subst (IsPart no_part) (sym (no_entry_no_part g.size g.land.levels [] 0 (no_entry_of_none 0)) ∙ sym (ap (λ (u : Sat). part_of (pass_of table u.0)) is)) none_held;
 }
 
 -- ---- a pass is split
 given_idle : (m : Sat) → Rests m → flag m.0.left (least m.0.left) ≡ true → pass_at (state_in (ground_of m.0) m.0.seen) (least m.0.left) ≡ Free
 given_idle m rests some = no_entry_no_part m.0.size m.0.about.levels m.0.seen (least m.0.left) (rests.history.unused (least m.0.left) some)
 
-pub given_whole : (table : TableId) (m seat : Sat) (number : ℕ) (left : List Bool) → Rests m → Rests seat → flag m.0.left (least m.0.left) ≡ true → seat ≡ (given_away m.0, []) → number ≡ least m.0.left → left ≡ no_flags → IsPass table seat number left true
+pub given_whole : (table : TableId) (m seat : Sat) (number : ℕ) (left : List Bool) → Rests m → Rests seat → flag m.0.left (least m.0.left) ≡ true → seat ≡ (given_away m.0, []) → number ≡ least m.0.left → left ≡ no_flags → IsPass table seat number left no_part
 given_whole table m seat number left rests given some is own flags = record {
   rests = given;
   own = own ∙ sym (ap (λ (u : Sat). u.0.own) is);
   giving = flags ∙ sym (ap (λ (u : Sat). u.0.left) is);
-  idle =
-      sym (ap (λ (w : Pass). not (has_work w)) (given_idle m rests some))
-      ∙ sym (ap (λ (u : Sat). is_free (pass_of table u.0)) is);
+  holds = subst (IsPart no_part) (sym (given_idle m rests some) ∙ sym (ap (λ (u : Sat). part_of (pass_of table u.0)) is)) none_held;
 }
 
 pub split_is : (table kept given : TableId) (m seat new : Sat) → kept ≡ table → given ≡ table → Rests m → flag m.0.left (least m.0.left) ≡ true → seat ≡ (kept_back m.0, []) → new ≡ (given_away m.0, []) → IsSplit (pass_of table m.0) (pass_of kept seat.0) (pass_of given new.0)
@@ -100,19 +101,16 @@ split_is table kept given m seat new k g rests some one two =
     }))))
 
 -- ---- a pass is joined
-pub joined_whole : (table table' : TableId) (m other after : Sat) (number : ℕ) (left more flags : List Bool) (free : Bool) → IsPass table m number left free → more ≡ other.0.left → TakesOver m other after → flags ≡ either_flags left more → IsPass table' after number flags free
-joined_whole table table' m other after number left more flags free p theirs t is = record {
+pub joined_whole : (table table' : TableId) (m other after : Sat) (number : ℕ) (left more flags : List Bool) (part : Part) → IsPass table m number left part → more ≡ other.0.left → TakesOver m other after → flags ≡ either_flags left more → IsPass table' after number flags part
+joined_whole table table' m other after number left more flags part p theirs t is = record {
   rests = t.rests;
   own = p.own ∙ sym (ap (λ (u : Sat). u.0.own) t.seat);
   giving = is ∙ ap₂ either_flags p.giving theirs ∙ sym (ap (λ (u : Sat). u.0.left) t.seat);
-  idle =
-      p.idle
-      ∙ ap (λ (w : Pass). not (has_work w)) (sym (part_since (ground_of m.0) m.0.numbers m.0.seen t.log m.0.own t.own p.rests.history.mine))
-      ∙ sym (ap (λ (u : Sat). is_free (pass_of table' u.0)) t.seat);
+  holds = subst (IsPart part) (sym (part_since (ground_of m.0) m.0.numbers m.0.seen t.log m.0.own t.own p.rests.history.mine) ∙ sym (ap (λ (u : Sat). part_of (pass_of table' u.0)) t.seat)) p.holds;
 }
 
-pub joined_is : (table table' theirs : TableId) (m other after : Sat) → table' ≡ table → TakesOver m other after → IsJoined (pass_of table m.0) (pass_of theirs other.0) (pass_of table' after.0)
-joined_is table table' theirs m other after same t =
+pub joined_is : (table table' theirs : TableId) (m other after : Sat) → table' ≡ table → Rests m → TakesOver m other after → IsJoined (pass_of table m.0) (pass_of theirs other.0) (pass_of table' after.0)
+joined_is table table' theirs m other after same r t =
     let w : View = rested (joined m.0 other.0) t.log m.0.heights in
     let legal : IsLegal (ground_of w) w.seen = subst (λ (u : Sat). IsLegal (ground_of u.0) u.0.seen) t.seat t.rests.history.legal in
     subst (λ (i : TableId). IsJoined (pass_of table m.0) (pass_of theirs other.0) (pass_of i after.0)) (sym same)
@@ -124,8 +122,24 @@ joined_is table table' theirs m other after same t =
       legal = legal;
       clip = refl;
       number = refl;
+      part = part_since (ground_of m.0) m.0.numbers m.0.seen t.log m.0.own t.own r.history.mine;
       heights = refl;
     }))
+
+-- ---- what is true of every pass
+pub sound_of : (table : TableId) (m : Sat) (pass : PassView) → Rests m → pass_of table m.0 ≡ pass → IsSound pass
+sound_of table m pass r is = subst IsSound is (record {
+  low = r.history.low;
+  own = r.history.mine;
+  legal = r.history.legal;
+  short = r.history.short;
+  idle = r.history.free;
+  flags = r.history.flags_left;
+  unused = λ p left. record {
+    entries = r.history.unused p left;
+    idle = no_entry_no_part m.0.size m.0.about.levels m.0.seen p (r.history.unused p left);
+  };
+})
 
 -- ---- the end
 pub closes_of : (table : TableId) (v : View) (pass : PassView) (desk : Desk) → pass_of table v ≡ pass → EndsWith v desk → Closes pass desk.book desk.journal

@@ -16,11 +16,7 @@ use Rattle.clip_book.specs.declared.answers.Begun.{Begun}
 use Rattle.clip_book.specs.declared.answers.Begun.TheVariants as B
 use Rattle.gate_rule.specs.Flags.{flag, only, no_flags, without, either_flags, least}
 use Rattle.gate_rule.specs.Rule.{IsLegal, places_in, GoesOn}
-use Rattle.clip_gate.specs.Passes.{PassView, ground_of_clip, state_of, part_of}
-
--- how many places a journal has
-abbrev pub limit : ℕ
-limit = 1048576
+use Rattle.clip_gate.specs.Passes.{PassView, limit, ground_of_clip, state_of, part_of}
 
 abbrev pub places_of_pass : PassView → List Entry → ℕ
 places_of_pass pass log = places_in (ground_of_clip pass.clip) log
@@ -50,11 +46,12 @@ pub record HasMade (event : Event) (answer : Answer) (asked : ℕ) (old new : Pa
   pub same : IsSamePass old new
   pub heights : KeepsHeights old new
 
--- the pass has made no event: others made some entries, none of the pass's numbers
+-- the pass has made no event: others made some entries, none of the pass's numbers, and its part is as before
 pub record HasWaited (old new : PassView) : Type 0 where
   pub waited : GoesOn old.numbers old.history new.history
   pub legal : IsLegalFor old new.history
   pub same : IsSamePass old new
+  pub part : part_of new ≡ part_of old
   pub heights : new.heights ≡ old.heights
 
 -- the journal is full: fewer places are free than the call asks for
@@ -104,7 +101,7 @@ pub record IsSplit (old kept given : PassView) : Type 0 where
   pub idle : part_of given ≡ Free
   pub loses : kept ≡ record old { left = without old.left (least old.left) }
 
--- a pass takes another over: its history goes on from both, with no entry of their numbers
+-- a pass takes another over: its history goes on from both, with no entry of their numbers, and its part is as before
 pub record IsJoined (old other new : PassView) : Type 0 where
   pub own : GoesOn old.numbers old.history new.history
   pub theirs : GoesOn other.numbers other.history new.history
@@ -113,4 +110,5 @@ pub record IsJoined (old other new : PassView) : Type 0 where
   pub legal : IsLegalFor old new.history
   pub clip : new.clip ≡ old.clip
   pub number : new.number ≡ old.number
+  pub part : part_of new ≡ part_of old
   pub heights : new.heights ≡ old.heights

@@ -1,3 +1,4 @@
+pub mod Parts
 pub mod Passes
 pub mod Calls
 pub mod Closing

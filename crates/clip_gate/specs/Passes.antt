@@ -1,17 +1,21 @@
 -- What a contract sees of a clip, and what a pass of it knows.
-use Rattle.std.specs.Prelude.{◌≡◌, ℕ, ◌<◌, ◌⊎◌, ℤ, Bool, true, not, List, [], Option, Some, None}
+use Rattle.std.specs.Prelude.{◌≡◌, ℕ, ◌<◌, ◌≤◌, ◌⊎◌, ℤ, Bool, true, not, List, [], length, Option, Some, None}
 use Rattle.atomic_table.specs.Seated.{TableId}
 use Rattle.clip_regions.specs.declared.region.Region.{Region}
 use Rattle.clip_regions.specs.Regions.{empty_region}
 use Rattle.plan_model.specs.States.{State, OpenFrame, Pass, pass_at, frame_of, has_work}
+use Rattle.plan_model.specs.Histories.{HasNoEntryOf}
 use Rattle.plan_model.specs.declared.events.Entry.{Entry}
+use Rattle.plan_model.specs.declared.events.Work.TheVariants.{Free}
 use Rattle.plan_holds.specs.Kept.{active_in}
 use Rattle.terrain_store.specs.Shapes.{Land}
 use Rattle.gate_rule.specs.Flags.{flag, only, all_but_first}
-use Rattle.gate_rule.specs.Rule.{Ground, state_in}
+use Rattle.gate_rule.specs.Rule.{Ground, IsLegal, state_in, places_in}
 use Rattle.gate_rule.specs.Plays.{Sat}
 use Rattle.gate_rule.specs.Steps.{Rests}
 use Rattle.gate_rule.specs.declared.view.View.{View}
+use Rattle.clip_gate.specs.declared.part.Part.{Part}
+use Rattle.clip_gate.specs.Parts.{IsPart}
 
 -- a clip: which one it is, its terrain with its levels, and K
 pub record ClipView : Type 0 where
@@ -31,6 +35,10 @@ pub record PassView : Type 0 where
 
 abbrev pub ground_of_clip : ClipView → Ground
 ground_of_clip clip = record { land = clip.land; size = clip.size }
+
+-- how many places a journal has
+abbrev pub limit : ℕ
+limit = 1048576
 
 -- the state that its history leaves, and its part in it: nothing, a job or a frame
 abbrev pub state_of : PassView → State
@@ -56,6 +64,22 @@ shown_by pass level = region_in (frame_of (part_of pass)) level
 abbrev pub HasAllNumbers : PassView → Type 0
 HasAllNumbers pass = (p : ℕ) → p < 16 → (flag pass.numbers p ≡ true) ⊎ (flag pass.left p ≡ true)
 
+-- a number has no entry in the pass's history, and neither a job nor a frame
+pub record IsUnused (pass : PassView) (p : ℕ) : Type 0 where
+  pub entries : HasNoEntryOf p pass.history
+  pub idle : pass_at (state_of pass) p ≡ Free
+
+-- what is true of every pass: its number is among its numbers, and below 16; its history is legal, and fits in a
+-- journal; of its numbers only its own may have a job or a frame; and one that it has left to give isn't used
+pub record IsSound (pass : PassView) : Type 0 where
+  pub low : pass.number < 16
+  pub own : flag pass.numbers pass.number ≡ true
+  pub legal : IsLegal (ground_of_clip pass.clip) pass.history
+  pub short : places_in (ground_of_clip pass.clip) pass.history ≤ limit
+  pub idle : (p : ℕ) → flag pass.numbers p ≡ true → (p ≡ pass.number → ⊥) → pass_at (state_of pass) p ≡ Free
+  pub flags : length pass.left ≡ 16
+  pub unused : (p : ℕ) → flag pass.left p ≡ true → IsUnused pass p
+
 -- the pass that a clip starts with: number 0, with the numbers 1 to 15 left to give
 abbrev pub first_pass : ClipView → PassView
 first_pass clip = record { clip = clip; number = 0; numbers = only 0; left = all_but_first; history = []; heights = [] }
@@ -71,8 +95,8 @@ pass_of table v = record {
   heights = v.heights;
 }
 
-pub record IsPass (table : TableId) (me : Sat) (number : ℕ) (left : List Bool) (free : Bool) : Type 0 where
+pub record IsPass (table : TableId) (me : Sat) (number : ℕ) (left : List Bool) (part : Part) : Type 0 where
   pub rests : Rests me
   pub own : number ≡ me.0.own
   pub giving : left ≡ me.0.left
-  pub idle : free ≡ is_free (pass_of table me.0)
+  pub holds : IsPart part (part_of (pass_of table me.0))

@@ -9,9 +9,11 @@ ghost use Rattle.clip_gate.specs.Closing.{Closes, IsTurnOut};
 
 use crate::faults::{CloseFault, PassesOut};
 use crate::flags;
+use crate::journal::Journal;
+use crate::part::Part;
 use crate::pass::Pass;
 use clip_book::{Book, NoMemory};
-use gate_rule::{Desk, GateTable, Journal, Key, TurnOut};
+use gate_rule::{Desk, GateTable, Key, TurnOut};
 use std::alloc::Global;
 use std::marker::Model;
 use std::snapshot::Snapshot;
@@ -55,7 +57,7 @@ impl Clip {
             size: k,
         };
         let book = Book::start(alloc, shape, k)?;
-        let journal = Journal::start(alloc)?;
+        let journal = gate_rule::Journal::start(alloc)?;
         let desk = Desk {
             book,
             journal,
@@ -68,7 +70,10 @@ impl Clip {
             seat,
             number: 0,
             left,
-            free: true,
+            part: Part {
+                free: true,
+                frame: None,
+            },
         };
         Ok((Clip { table }, pass))
     }
@@ -91,7 +96,10 @@ impl Clip {
             seat,
             number,
             left: [false; 16],
-            free: true,
+            part: Part {
+                free: true,
+                frame: None,
+            },
         })
     }
 
@@ -107,7 +115,7 @@ impl Clip {
             seat,
             number: _,
             left,
-            free: _,
+            part: _,
         } = other;
         gate_rule::take_over(rt, &self.table, &mut pass.seat, seat);
         flags::add(&mut pass.left, &left);
@@ -126,7 +134,7 @@ impl Clip {
             seat,
             number: _,
             left: _,
-            free: _,
+            part: _,
         } = pass;
         match gate_rule::close(table, seat) {
             Ok(
@@ -135,7 +143,7 @@ impl Clip {
                     journal,
                     taken: _,
                 },
-            ) => Ok((book, journal)),
+            ) => Ok((book, Journal { entries: journal })),
             Err(TurnOut { ticket, serving }) => Err(CloseFault::TurnOut { ticket, serving }),
         }
     }

@@ -1,17 +1,19 @@
 //! The events of a pass, each at its turn.
 
-ghost use Rattle.std.specs.Prelude.{◌≡◌, ◌<◌, ◌≤◌, ◌^◌, ◌+◌, not, IfOk, IfErr, OnErr};
+ghost use Rattle.std.specs.Prelude.{◌≡◌, ◌<◌, ◌≤◌, ◌^◌, ◌+◌, IfOk, IfErr, OnErr};
 ghost use Rattle.plan_model.specs.Limits.{IsViewer};
-ghost use Rattle.plan_model.specs.States.{pass_at, frame_of, has_work};
+ghost use Rattle.plan_model.specs.States.{pass_at, frame_of};
 ghost use Rattle.plan_model.specs.declared.events.Event.TheVariants.{Move, Claim, Finish, Publish, Begin, End};
 ghost use Rattle.plan_model.specs.declared.events.Answer.TheVariants.{Moved};
 ghost use Rattle.clip_book.specs.Answers.{said_of_claim, said_of_given, said_of_published, said_of_begun, said_of_ended};
 ghost use Rattle.gate_rule.specs.Steps.{IsSeatOf, InTurn, IsAnswered, Noted};
+ghost use Rattle.clip_gate.specs.Parts.{IsPart};
 ghost use Rattle.clip_gate.specs.Passes.{part_of};
 ghost use Rattle.clip_gate.specs.Calls.{HasMade, IsFull, places_to_end, GivesJob, GivesActives, IsFilledOfPass};
 
 use crate::clip::Clip;
 use crate::faults::JournalFull;
+use crate::part::{Part, part_of};
 use crate::pass::Pass;
 use crate::told::{told_of_begun, told_of_claim, told_of_ended, told_of_given, told_of_published};
 use clip_book::{Begun, Book, Claimed, Ended, FilledJob, Given, Published};
@@ -20,30 +22,32 @@ use plan_holds::histories_go_on;
 use plan_model::{Answer, Entry, Event};
 use std::sync::Wait;
 
-/// How many places a journal has.
+// How many places a journal has.
 const LIMIT: u32 = 1_048_576;
 
-// Whether a pass has neither a job nor a frame.
-fn is_idle(book: &Book, pass: u8) -> bool
-    requires { pass < 16 }
-    ensures { result ≡ not (has_work (pass_at book.now.plan.state pass)) }
-{
-    !book.has_job(pass) && book.frame_of(pass).is_none()
-}
+// How many places an event asks for: that of its entry, and with a claim or a beginning that of the entry which gives
+// the job back or ends the frame.
+const TO_MOVE: u32 = 1;
 
-// Writes the entry of an event that the book has answered and passes the turn on. It tells whether the pass is free.
-fn write(table: &GateTable, seat: &mut Seat, desk: Desk, entry: Entry) -> bool
+const TO_CLAIM: u32 = 2;
+
+const TO_PUBLISH: u32 = 1;
+
+const TO_BEGIN: u32 = 2;
+
+// Writes the entry of an event that the book has answered and passes the turn on. It gives the pass's part.
+fn write(table: &GateTable, seat: &mut Seat, desk: Desk, entry: Entry) -> Part
     requires low { entry.pass < 16 }
     requires table { IsSeatOf seat.old.table_id table.now.shared.table_id }
     requires turn { InTurn seat.old.me }
     requires answered { IsAnswered seat.old.me.0 entry desk }
-    ensures free { result ≡ not (has_work (pass_at desk.book.plan.state entry.pass)) }
+    ensures part { IsPart result (pass_at desk.book.plan.state entry.pass) }
     ensures table { seat.new.table_id ≡ seat.old.table_id }
     ensures noted { Noted seat.old.me seat.new.me entry desk }
 {
-    let free = is_idle(&desk.book, entry.pass);
+    let part = part_of(&desk.book, entry.pass);
     note(table, seat, desk, entry);
-    free
+    part
 }
 
 impl Clip {
@@ -64,7 +68,7 @@ impl Clip {
         ensures limit { IfErr result (λ full. full.limit ≡ 1048576) }
     {
         let mut desk = enter(rt, &self.table, &mut pass.seat);
-        if LIMIT - 1 < desk.taken {
+        if LIMIT - TO_MOVE < desk.taken {
             leave(&self.table, &mut pass.seat, desk);
             return Err(JournalFull { limit: LIMIT });
         }
@@ -74,7 +78,7 @@ impl Clip {
             event: Event::Move { x, y, a },
             answer: Answer::Moved,
         };
-        pass.free = write(&self.table, &mut pass.seat, desk, entry);
+        pass.part = write(&self.table, &mut pass.seat, desk, entry);
         Ok(())
     }
 
@@ -88,7 +92,7 @@ impl Clip {
         ensures limit { IfErr result (λ full. full.limit ≡ 1048576) }
     {
         let mut desk = enter(rt, &self.table, &mut pass.seat);
-        if LIMIT - 2 < desk.taken {
+        if LIMIT - TO_CLAIM < desk.taken {
             leave(&self.table, &mut pass.seat, desk);
             return Err(JournalFull { limit: LIMIT });
         }
@@ -98,7 +102,7 @@ impl Clip {
             event: Event::Claim,
             answer: told_of_claim(&answer),
         };
-        pass.free = write(&self.table, &mut pass.seat, desk, entry);
+        pass.part = write(&self.table, &mut pass.seat, desk, entry);
         Ok(answer)
     }
 
@@ -115,7 +119,7 @@ impl Clip {
             event: Event::Finish,
             answer: told_of_given(answer),
         };
-        pass.free = write(&self.table, &mut pass.seat, desk, entry);
+        pass.part = write(&self.table, &mut pass.seat, desk, entry);
         answer
     }
 
@@ -135,7 +139,7 @@ impl Clip {
     {
         histories_go_on();
         let mut desk = enter(rt, &self.table, &mut pass.seat);
-        if LIMIT - 1 < desk.taken {
+        if LIMIT - TO_PUBLISH < desk.taken {
             leave(&self.table, &mut pass.seat, desk);
             return Err(JournalFull { limit: LIMIT });
         }
@@ -145,7 +149,7 @@ impl Clip {
             event: Event::Publish { level },
             answer: told_of_published(answer),
         };
-        pass.free = write(&self.table, &mut pass.seat, desk, entry);
+        pass.part = write(&self.table, &mut pass.seat, desk, entry);
         Ok(answer)
     }
 
@@ -159,7 +163,7 @@ impl Clip {
         ensures limit { IfErr result (λ full. full.limit ≡ 1048576) }
     {
         let mut desk = enter(rt, &self.table, &mut pass.seat);
-        if LIMIT - 2 < desk.taken {
+        if LIMIT - TO_BEGIN < desk.taken {
             leave(&self.table, &mut pass.seat, desk);
             return Err(JournalFull { limit: LIMIT });
         }
@@ -169,7 +173,7 @@ impl Clip {
             event: Event::Begin,
             answer: told_of_begun(&answer),
         };
-        pass.free = write(&self.table, &mut pass.seat, desk, entry);
+        pass.part = write(&self.table, &mut pass.seat, desk, entry);
         Ok(answer)
     }
 
@@ -194,7 +198,7 @@ impl Clip {
             event: Event::End,
             answer: told_of_ended(answer),
         };
-        pass.free = write(&self.table, &mut pass.seat, desk, entry);
+        pass.part = write(&self.table, &mut pass.seat, desk, entry);
         Ok(answer)
     }
 }

@@ -1,4 +1,4 @@
-use Rattle.std.proofs.Common.{◌≡◌, ◌≤◌, ◌+◌, refl, sym, ap, ◌∙◌, subst, arith}
+use Rattle.std.proofs.Common.{◌≡◌, ◌<◌, ◌≤◌, ◌+◌, refl, sym, ap, ◌∙◌, subst, arith}
 use Rattle.plan_model.specs.declared.events.Event.TheVariants.{Begin}
 use Rattle.plan_model.specs.declared.events.Answer.{Answer}
 use Rattle.plan_model.specs.declared.events.Entry.{Entry}
@@ -10,8 +10,8 @@ use Rattle.gate_rule.specs.Steps.{IsAnswered}
 use Rattle.gate_rule.specs.declared.journal.Desk.{Desk}
 use Rattle.gate_rule.proofs.Calls.{in_turn_of}
 use Rattle.clip_gate.specs.Passes.{PassView, pass_of}
-use Rattle.clip_gate.specs.Calls.{HasMade}
-use Rattle.clip_gate.proofs.Promises.{answered, made, pass_waited, pass_made, few_frames, gives_actives}
+use Rattle.clip_gate.specs.Calls.{HasMade, IsFull}
+use Rattle.clip_gate.proofs.Promises.{answered, made, full, pass_waited, pass_made, few_frames, gives_actives}
 use Rattle.clip_gate.proofs.clip.Clip.begin.Goals as goal
 
 pub invariant_of-pass : goal.invariant_of-pass
@@ -22,7 +22,7 @@ invariant_of-pass g c =
     let desk : Desk = c.enter-desk.result in
     let e = c.enter-desk.ensures.entered in
     let own : c.pass.inside.number ≡ m.0.own = c.pass.invariant.own in
-    pass_waited table c.leave.new.seat.table_id m seat c.leave.new.seat.me desk c.pass.inside.number c.pass.inside.left c.pass.inside.free c.pass.invariant e c.leave.ensures.left
+    pass_waited table c.leave.new.seat.table_id m seat c.leave.new.seat.me desk c.pass.inside.number c.pass.inside.left c.pass.inside.part c.pass.invariant e c.leave.ensures.left
 
 pub begin-answer-requires-clause-begun : goal.begin-answer-requires-clause-begun
 begin-answer-requires-clause-begun g c = few_frames c.pass.inside.seat.me c.enter-desk.new.seat.me c.enter-desk.result c.enter-desk.ensures.entered
@@ -58,7 +58,7 @@ invariant_of-pass-2 g c =
     let does : Does x.pass x.event x.answer desk.book new.book = subst (λ (a : Answer). Does c.pass.inside.number Begin a desk.book new.book) (sym c.told_of_begun.ensures) c.begin-answer.ensures.does in
     let room : desk.taken + 2 ≤ 1048576 = (let h = c.if-desk.false in omega arith) in
     let is : IsAnswered seat.0 x new = answered m seat desk new x (2) e own tt does refl refl (places_are_few Begin c.told_of_begun.result) room in
-    pass_made table c.write-pass-inside.new.seat.table_id m seat c.write-pass-inside.new.seat.me desk new x c.pass.inside.number c.pass.inside.left c.pass.inside.free c.write-pass-inside.result c.pass.invariant e is c.write-pass-inside.ensures.noted c.write-pass-inside.ensures.free
+    pass_made table c.write-pass-inside.new.seat.table_id m seat c.write-pass-inside.new.seat.me desk new x c.pass.inside.number c.pass.inside.left c.pass.inside.part c.write-pass-inside.result c.pass.invariant e is c.write-pass-inside.ensures.noted c.write-pass-inside.ensures.part
 
 pub returns-clause-made : goal.returns-clause-made
 returns-clause-made g c =
@@ -90,3 +90,12 @@ returns-clause-actives g c =
     let room : desk.taken + 2 ≤ 1048576 = (let h = c.if-desk.false in omega arith) in
     let is : IsAnswered seat.0 x new = answered m seat desk new x (2) e own tt does refl refl (places_are_few Begin c.told_of_begun.result) room in
     gives_actives c.write-pass-inside.new.seat.table_id m seat c.write-pass-inside.new.seat.me desk new x c.begin-answer.result e is c.write-pass-inside.ensures.noted own c.begin-answer.ensures.actives
+
+pub returns-then-desk-clause-full : goal.returns-then-desk-clause-full
+returns-then-desk-clause-full g c =
+    let table = c.pass.inside.seat.table_id in
+    let desk : Desk = c.enter-desk.result in
+    let after = c.leave.new.seat in
+    let more : 1048576 < desk.taken + 2 = (let h = c.if-desk.true in omega arith) in
+    subst (λ (q : PassView). IsFull 2 q (pass_of after.table_id after.me.0)) c.pass.view_is
+    (full table after.table_id c.pass.inside.seat.me c.enter-desk.new.seat.me after.me desk 2 (c.leave.ensures.table ∙ c.enter-desk.ensures.table) c.pass.invariant.rests c.enter-desk.ensures.entered c.leave.ensures.left more)

@@ -22,7 +22,7 @@ invariant_of-pass g c =
     let desk : Desk = c.enter-desk.result in
     let e = c.enter-desk.ensures.entered in
     let own : c.pass.inside.number ≡ m.0.own = c.pass.invariant.own in
-    pass_waited table c.leave.new.seat.table_id m seat c.leave.new.seat.me desk c.pass.inside.number c.pass.inside.left c.pass.inside.free c.pass.invariant e c.leave.ensures.left
+    pass_waited table c.leave.new.seat.table_id m seat c.leave.new.seat.me desk c.pass.inside.number c.pass.inside.left c.pass.inside.part c.pass.invariant e c.leave.ensures.left
 
 pub write-pass-inside-requires-clause-turn : goal.write-pass-inside-requires-clause-turn
 write-pass-inside-requires-clause-turn g c =
@@ -55,7 +55,7 @@ invariant_of-pass-2 g c =
     let does : Does x.pass x.event x.answer desk.book new.book = subst (λ (a : Answer). Does c.pass.inside.number End a desk.book new.book) (sym c.told_of_ended.ensures) c.end-answer.ensures.does in
     let room : desk.taken + places_to_end (frame_of (pass_at desk.book.plan.state c.pass.inside.number)) ≤ 1048576 = (subst (λ n. desk.taken + n ≤ 1048576) c.places_to_end-asked.ensures (end_room desk.taken c.places_to_end-asked.result (few_to_end _ c.places_to_end-asked.ensures) c.if-asked-desk.false)) in
     let is : IsAnswered seat.0 x new = answered m seat desk new x (places_to_end (frame_of (pass_at desk.book.plan.state c.pass.inside.number))) e own tt does refl refl (end_asks c.pass.inside.number desk.book new.book c.told_of_ended.result does) room in
-    pass_made table c.write-pass-inside.new.seat.table_id m seat c.write-pass-inside.new.seat.me desk new x c.pass.inside.number c.pass.inside.left c.pass.inside.free c.write-pass-inside.result c.pass.invariant e is c.write-pass-inside.ensures.noted c.write-pass-inside.ensures.free
+    pass_made table c.write-pass-inside.new.seat.table_id m seat c.write-pass-inside.new.seat.me desk new x c.pass.inside.number c.pass.inside.left c.pass.inside.part c.write-pass-inside.result c.pass.invariant e is c.write-pass-inside.ensures.noted c.write-pass-inside.ensures.part
 
 pub returns-clause-made : goal.returns-clause-made
 returns-clause-made g c =
@@ -84,6 +84,6 @@ returns-then-asked-desk-clause-full g c =
     let after = c.leave.new.seat in
     let asked = c.places_to_end-asked.result in
     let more : 1048576 < desk.taken + asked = end_full desk.taken asked (few_to_end _ c.places_to_end-asked.ensures) c.if-asked-desk.true in
-    let known : IsFull asked (pass_of table m.0) (pass_of after.table_id after.me.0) = full table after.table_id m seat after.me desk asked (c.leave.ensures.table ∙ c.enter-desk.ensures.table) e c.leave.ensures.left more in
+    let known : IsFull asked (pass_of table m.0) (pass_of after.table_id after.me.0) = full table after.table_id m seat after.me desk asked (c.leave.ensures.table ∙ c.enter-desk.ensures.table) c.pass.invariant.rests e c.leave.ensures.left more in
     let asks : IsFull (places_to_end (frame_of (part_of c.args.pass.now))) (pass_of table m.0) (pass_of after.table_id after.me.0) = subst (λ n. IsFull n (pass_of table m.0) (pass_of after.table_id after.me.0)) (c.places_to_end-asked.ensures ∙ asked_now table m seat desk c.pass.inside.number c.args.pass.now c.pass.invariant.rests c.pass.invariant.own e c.pass.view_is) known in
     subst (λ (q : PassView). IsFull (places_to_end (frame_of (part_of c.args.pass.now))) q (pass_of after.table_id after.me.0)) c.pass.view_is asks

@@ -55,7 +55,7 @@ invariant_of-pass g c =
     let does : Does x.pass x.event x.answer desk.book new.book = subst (λ (a : Answer). Does c.pass.inside.number Finish a desk.book new.book) (sym c.told_of_given.ensures) c.give_back-answer.ensures.does in
     let room : desk.taken + 0 ≤ 1048576 = (let h = e.history.short in let a = e.stands.taken in omega arith) in
     let is : IsAnswered seat.0 x new = answered m seat desk new x (0) e own (may_finish table m seat desk c.pass.inside.number c.args.pass.now c.args.job c.pass.invariant.rests own e c.pass.view_is c.requires.job) does refl refl (places_are_few Finish c.told_of_given.result) room in
-    pass_made table c.write-pass-inside.new.seat.table_id m seat c.write-pass-inside.new.seat.me desk new x c.pass.inside.number c.pass.inside.left c.pass.inside.free c.write-pass-inside.result c.pass.invariant e is c.write-pass-inside.ensures.noted c.write-pass-inside.ensures.free
+    pass_made table c.write-pass-inside.new.seat.table_id m seat c.write-pass-inside.new.seat.me desk new x c.pass.inside.number c.pass.inside.left c.pass.inside.part c.write-pass-inside.result c.pass.invariant e is c.write-pass-inside.ensures.noted c.write-pass-inside.ensures.part
 
 pub returns : goal.returns
 returns g c =

@@ -1,7 +1,5 @@
-use Rattle.std.proofs.Common.{◌≡◌, true, subst}
-use Rattle.gate_rule.specs.Flags.{flag}
-use Rattle.clip_gate.specs.Passes.{PassView}
+use Rattle.clip_gate.proofs.Seatings.{sound_of}
 use Rattle.clip_gate.proofs.pass.Pass.number.Goals as goal
 
-pub returns-clause-own : goal.returns-clause-own
-returns-clause-own c = subst (λ (q : PassView). flag q.numbers q.number ≡ true) c.self.view_is c.self.invariant.rests.history.mine
+pub returns-clause-sound : goal.returns-clause-sound
+returns-clause-sound c = sound_of c.self.inside.seat.table_id c.self.inside.seat.me c.args.self.now c.self.invariant.rests c.self.view_is
