@@ -10,7 +10,6 @@ mod journal;
 mod part;
 mod pass;
 mod reading;
-mod told;
 #[cfg(test)]
 mod worked;
 
