@@ -38,6 +38,7 @@ fn long_script(alloc: Global, count: u32) -> Result<Vec<u8>, AllocError> {
 }
 
 // What the reader of scripts says of a text: how many steps it has, or its first bad line.
+#[derive(Drop)]
 enum Said {
     Steps(usize),
     BadLine(u64),
@@ -84,7 +85,8 @@ fn agrees<R: Threads + Sync + AllocGlobal>(rt: &R, text: &[u8], said: &Said) -> 
     let alloc = rt.alloc();
     let files = [("s", text), (TILE, NINE.as_slice())];
     let left = run(rt, &["play", "s", "o", TILE], &files)?;
-    let stays = left.shelf.file("s") == Some(text) && left.shelf.file(TILE) == Some(&NINE);
+    let stays = left.shelf.file("s") == Some(text)
+        && left.shelf.file(TILE) == Some(NINE.as_slice());
     let done = match said {
         Said::Steps(steps) => left.status == 0 && lines(left.sink.bytes()) == *steps,
         Said::BadLine(line) => {
