@@ -1,0 +1,5 @@
+pub mod Runs
+pub mod Shares
+pub mod Closings
+pub mod Turns
+pub mod Laws
