@@ -16,8 +16,8 @@ use crate::faults::JournalFull;
 use crate::part::{Part, part_of};
 use crate::pass::Pass;
 use clip_book::{
-    Begun, Book, Claimed, Ended, FilledJob, Given, Published, told_of_begun, told_of_claim, told_of_ended, told_of_given,
-    told_of_published,
+    Begun, Book, Claimed, Ended, FilledJob, Given, Published, told_of_begun, told_of_claim,
+    told_of_ended, told_of_given, told_of_published,
 };
 use gate_rule::{Desk, GateTable, Seat, enter, leave, note};
 use plan_holds::histories_go_on;
