@@ -87,17 +87,23 @@ tests = (('200 moves' if not os.environ.get('MOVES') else os.environ['MOVES'] + 
           ['play', 'flight.play', 'out', 'flight.gct']),
          ('one frame', 'frame.gct', 8, 12, ['frame', '8', '12', '1800', '1800', 'out.obj', 'frame.gct']))
 
-# The processor seconds, the seconds on the clock and the peak of memory in bytes of a command, and what it wrote.
+# Runs a command from a small process of its own, since a peak of memory counts that of the process that it was begun from, and tells
+# the processor seconds, the seconds on the clock, the peak in bytes and the status.
+small = """
+import os, sys, time
+begin = time.perf_counter()
+_, status, used = os.wait4(os.posix_spawn(sys.argv[1], sys.argv[1:], os.environ), 0)
+print(used.ru_utime + used.ru_stime, time.perf_counter() - begin, used.ru_maxrss * 1024, status, file=sys.stderr)
+"""
+
+# The processor seconds, the seconds on the clock and the peak of memory in bytes of a command, whose output goes to a file.
 def spent(command, output):
     with open(output, 'wb') as out:
-        begin = time.perf_counter()
-        run = subprocess.Popen(command, stdout=out)
-        _, status, used = os.wait4(run.pid, 0)
-        clock = time.perf_counter() - begin
-    run.returncode = status
+        run = subprocess.run([sys.executable, '-c', small] + command, stdout=out, stderr=subprocess.PIPE, check=True)
+    processor, clock, peak, status = map(float, run.stderr.split()[-4:])
     if status:
         sys.exit('%s: status %d' % (command[0], status))
-    return used.ru_utime + used.ru_stime, clock, used.ru_maxrss * 1024
+    return processor, clock, peak
 
 def written(output):
     names = sorted(glob.glob('out*.obj'))
