@@ -69,6 +69,8 @@ pub(crate) fn roomy_window(k: u8, level: u8, x: i32, y: i32) -> Region
     requires level { level ≤ 11 }
     requires x { IsViewed x }
     requires y { IsViewed y }
+
+    // It is the window of the definition, where pieces have room.
     ensures value { result ≡ window k level x y }
     ensures placed { IsPlaced result }
     ensures roomy { IsRoomy result }

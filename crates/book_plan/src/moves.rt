@@ -115,10 +115,14 @@ fn move_levels(levels: &mut [PlanLevel], k: u8, from: Viewer, to: Viewer)
     requires many { IsLevelCount (length levels.old) }
     requires from { IsViewer from.x from.y from.a }
     requires to { IsViewer to.x to.y to.a }
+
+    // Each level's filled region is placed, and its plan number can rise.
     requires placed { (level : ℕ) → level < length levels.old →
         IsPlaced (slice_index_or levels.old level empty_shelf).filled }
     requires plans { (level : ℕ) → level < length levels.old →
         (slice_index_or levels.old level empty_shelf).plan < 2 ^ 64 - 1 }
+
+    // Each level is the definition's.
     ensures { levels.new ≡ map (moved_from k from to levels.old) (range_with_len 0 (length levels.old)) }
 {
     let count = levels.len() as u8;
@@ -158,10 +162,14 @@ impl PlanDesk {
         requires many { IsLevelCount (length self.old.levels) }
         requires from { IsViewer from.x from.y from.a }
         requires to { IsViewer to.x to.y to.a }
+
+        // Each level's filled region is placed, and its plan number can rise.
         requires placed { (level : ℕ) → level < length self.old.levels →
             IsPlaced (shelf_at self.old level).filled }
         requires plans { (level : ℕ) → level < length self.old.levels →
             (shelf_at self.old level).plan < 2 ^ 64 - 1 }
+
+        // The levels alone change, each to the definition's.
         ensures { self.new ≡ record self.old {
           levels = map (moved_from self.old.k from to self.old.levels) (range_with_len 0 (length self.old.levels));
         } }

@@ -227,8 +227,12 @@ impl Tiles {
         requires level { level < length self.old.grids }
         requires pass { pass < length self.old.handed }
         requires home { IsTrue (is_home (grid_on self.old.grids level) tile) }
+
+        // The tile is the pass's, and nothing else moves.
         ensures moves { GoesOut level tile pass (cells_of self.old) (cells_of self.new) }
         ensures sizes { SameSizes self.old self.new }
+
+        // The pass is noted as having its heights.
         ensures heights { result.value ≡ handed_to self.new.handed pass }
         ensures others { self.new.handed ≡ slice_set self.old.handed pass (Some result.value) }
     {
@@ -242,6 +246,8 @@ impl Tiles {
         requires level { level < length self.old.grids }
         requires there { IsTrue (has_tile (grid_on self.old.grids level).k tile) }
         requires out { tile_at (grid_on self.old.grids level) tile ≡ None }
+
+        // The tile is at home as it came, and all else is as it was.
         ensures home { tile_at (grid_on self.new.grids level) tile ≡ Some back.value }
         ensures others { (p : ℕ) → SameCellsBut level tile p (cells_of self.old) (cells_of self.new) }
         ensures sizes { SameSizes self.old self.new }
@@ -257,6 +263,8 @@ impl Tiles {
         requires home { AreHome (grid_on self.now.grids level) region }
         requires column { IsCorner i0 }
         requires row { IsCorner j0 }
+
+        // It stands at that corner, and has what is seen of the region.
         ensures column { result.i0 ≡ i0 }
         ensures row { result.j0 ≡ j0 }
         ensures heights { (a b : ℕ) → a < 7 → b < 7 →

@@ -66,8 +66,12 @@ impl Region {
     pub fn meet(self, other: Region) -> Region
         requires self_placed { IsPlaced self }
         requires other_placed { IsPlaced other }
+
+        // It is the region of the definition, and its cells are those of both.
         ensures value { result ≡ meet self other }
         ensures cells { (i j : ℤ) → contains result i j ≡ (contains self i j && contains other i j) }
+
+        // It is placed, and lies in both.
         ensures placed { IsPlaced result }
         ensures in_self { IsTrue (holds self result) }
         ensures in_other { IsTrue (holds other result) }
@@ -87,9 +91,13 @@ impl Region {
         requires placed { IsPlaced self }
         requires low { pos 0 ≤ℤ by }
         requires high { by ≤ℤ pos (2 ^ 20) }
+
+        // It is the region of the definition, by its cells.
         ensures value { result ≡ erode self by }
         ensures cells { (i j : ℤ) →
             contains result i j ≡ (contains self (i -ℤ by) (j -ℤ by) && contains self (i +ℤ by) (j +ℤ by)) }
+
+        // It is placed, and lies in the region.
         ensures placed { IsPlaced result }
         ensures in_self { IsTrue (holds self result) }
     {

@@ -132,6 +132,8 @@ pub(crate) fn read_land<'a, S: Shelf>(
     requires few_inputs { length inputs.now ≤ 64 }
     requires some { 1 ≤ levels }
     requires few { levels ≤ 12 }
+
+    // It finds what the definition's reading finds, by as many calls at most.
     ensures found { ByVerdict (list_map string_bytes inputs.now) (S.told shelf.old).files
         (λ verdict. IfSome (S.told shelf.old).files (λ files. Finds land_of result
         (land_reading verdict (list_map string_bytes inputs.now) levels files).found)) }
@@ -139,6 +141,8 @@ pub(crate) fn read_land<'a, S: Shelf>(
     ensures calls { (verdict : Verdict) → IfSome (S.told shelf.old).files
         (λ files. CallsWithin (land_reading verdict (list_map string_bytes inputs.now) levels files).fetches
         (S.told shelf.old).calls (S.told shelf.new).calls) }
+
+    // A stop has a reason, and no file changes.
     ensures reason { OnStop result (Rose (S.told shelf.old).faults (S.told shelf.new).faults) }
     ensures files_stay { (S.told shelf.new).files ≡ (S.told shelf.old).files }
     ensures faults_stay { (S.told shelf.old).faults ≤ (S.told shelf.new).faults }

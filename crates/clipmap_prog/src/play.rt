@@ -82,14 +82,20 @@ fn stage<'a, S: Shelf>(
     play: &PlayWords<'a>,
 ) -> Result<Staged, Stop<'a>>
     requires few_inputs { length play.now.inputs.now ≤ 64 }
+
+    // It finds what the definition's reading finds, by as many calls at most.
     ensures found { ByVerdict (play_view play.now).inputs (S.told shelf.old).files
         (λ verdict. IfSome (S.told shelf.old).files (λ files. Finds stage_view result
         (play_reading verdict (play_view play.now) files).found)) }
     ensures calls { (verdict : Verdict) → IfSome (S.told shelf.old).files
         (λ files. CallsWithin (play_reading verdict (play_view play.now) files).fetches
         (S.told shelf.old).calls (S.told shelf.new).calls) }
+
+    // The script is in range for the terrain's levels.
     ensures in_range { IfOk result (λ staged.
         IsScriptInRange (land_of staged.store).levels (script_view staged.script)) }
+
+    // A stop has a reason, and no file changes.
     ensures reason { OnStop result (Rose (S.told shelf.old).faults (S.told shelf.new).faults) }
     ensures files_stay { (S.told shelf.new).files ≡ (S.told shelf.old).files }
     ensures faults_stay { (S.told shelf.old).faults ≤ (S.told shelf.new).faults }

@@ -12,19 +12,37 @@ use std::alloc::Global;
 /// What there is to do on a book between its events.
 #[derive(Drop)]
 pub enum Task {
-    /// The frame of pass `pass`, 0 to 15, is to be drawn.
-    Draw { pass: u8 },
-    /// The job of pass `pass` is to be filled.
-    Fill { pass: u8, job: Job },
+    /// A frame is to be drawn.
+    Draw {
+        /// The pass that has the frame, 0 to 15.
+        pass: u8,
+    },
+    /// A job is to be filled.
+    Fill {
+        /// The pass that has the job, 0 to 15.
+        pass: u8,
+        /// The job.
+        job: Job,
+    },
 }
 
 /// What was done.
 #[derive(Drop)]
 pub enum Done {
-    /// The mesh of the frame of pass `pass`.
-    Drawn { pass: u8, mesh: Mesh },
-    /// The job of pass `pass`, filled.
-    Filled { pass: u8, job: FilledJob },
+    /// A frame was drawn.
+    Drawn {
+        /// The pass that has the frame, 0 to 15.
+        pass: u8,
+        /// The frame's mesh.
+        mesh: Mesh,
+    },
+    /// A job was filled.
+    Filled {
+        /// The pass that has the job, 0 to 15.
+        pass: u8,
+        /// The job with its heights.
+        job: FilledJob,
+    },
 }
 
 // Does a task, without telling of it.

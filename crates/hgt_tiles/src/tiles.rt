@@ -191,9 +191,13 @@ fn append_row(
     requires side { side ≤ 3601 }
     requires whole { 2 * (first + side) ≤ length bytes.now }
     requires row { length row.old ≡ side }
+
+    // The row is a row still, and its heights stand behind the others.
     ensures row { length row.new ≡ side }
     ensures heights { OnOk result
         (heights.new.items ≡ heights.old.items ++ without_voids (samples_from bytes.now first side)) }
+
+    // The answer is how many voids it has.
     ensures voids { IfOk result (λ voids. voids ≡ count_by is_void (samples_from bytes.now first side)) }
     ensures few { IfOk result (λ voids. voids ≤ side) }
 {

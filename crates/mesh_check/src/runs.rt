@@ -27,11 +27,15 @@ pub(crate) fn first_run(keys: &[u64]) -> Run
     requires some { 0 < length keys.now }
     requires few { length keys.now < 2 ^ 32 }
     requires sorted { IsNonDecreasing keys.now }
+
+    // It is the first edge, with how often it goes each way.
     ensures pair { result.pair ≡ slice_index keys.now 0 / 2 }
     ensures there { result.there ≡ count_by (λ key. key == 2 * result.pair) keys.now }
     ensures back { result.back ≡ count_by (λ key. key == 2 * result.pair + 1) keys.now }
     ensures some { 0 < result.there + result.back }
     ensures few { result.there + result.back ≤ length keys.now }
+
+    // What stands behind it is of greater edges, as often as before.
     ensures others { (k : ℕ) → 2 * result.pair + 1 < k →
         count_by (λ key. key == k) (drop (result.there + result.back) keys.now) ≡ count_by (λ key. key == k) keys.now }
     ensures above { (k : ℕ) → result.there + result.back ≤ k → k < length keys.now
@@ -149,12 +153,16 @@ pub(crate) fn first_open(places: Places<'_>, keys: &[u64]) -> Option<Run>
     requires few { length keys.now < 2 ^ 32 }
     requires sorted { IsNonDecreasing keys.now }
     requires ends { All (IsEdgeOf (length places.vertices.now)) keys.now }
+
+    // Every edge before it is closed, and it isn't; where there is none, all are.
     ensures none { IfNone result ((pair : ℕ)
         → IsTrue (is_closed_pair places.entry.border places.entry.vertices.now keys.now pair)) }
     ensures before { IfSome result (λ run. (pair : ℕ) → pair < run.pair
         → IsTrue (is_closed_pair places.entry.border places.entry.vertices.now keys.now pair)) }
     ensures open { IfSome result
         (λ run. is_closed_pair places.entry.border places.entry.vertices.now keys.now run.pair ≡ false) }
+
+    // It is told with how often it goes each way, and is an edge of the vertices.
     ensures there { IfSome result (λ run. run.there ≡ count_by (λ key. key == 2 * run.pair) keys.now) }
     ensures back { IfSome result (λ run. run.back ≡ count_by (λ key. key == 2 * run.pair + 1) keys.now) }
     ensures few { IfSome result (λ run. run.there + run.back ≤ length keys.now) }

@@ -24,11 +24,15 @@ struct Edge {
 fn side_at(finer: &Ring, ring: &Ring, squares: &Region, v: u32, u: u32) -> Edge
     requires linked { AreLinked finer.now ring.now }
     requires squares { HasSquares ring.now.active squares.now }
+
+    // The cell is one of the squares' corners, and has another south of it.
     requires some { 0 < columns squares.now }
     requires column { u ≤ columns squares.now }
     requires row { v < rows squares.now }
     requires few_columns { u ≤ 2 ^ 27 }
     requires few_rows { v < 2 ^ 28 }
+
+    // The ends are the places of both.
     ensures north { result.north ≡ corner_of finer.now ring.now (squares.now.x0 +ℤ pos u) (squares.now.y0 +ℤ pos v) }
     ensures south { result.south ≡
         corner_of finer.now ring.now (squares.now.x0 +ℤ pos u) ((squares.now.y0 +ℤ pos v) +ℤ pos 1) }

@@ -89,6 +89,8 @@ fn cells_of(bx: u32, by: u32, columns: u32, rows: u32) -> Region
     requires row { 8 * by < rows }
     requires wide { columns ≤ 2 ^ 26 }
     requires high { rows ≤ 2 ^ 26 }
+
+    // It has the block's eight columns and rows, as far as the terrain goes.
     ensures west { result.x0 ≡ pos (8 * bx) }
     ensures north { result.y0 ≡ pos (8 * by) }
     ensures east { result.x1 ≡ pos (min (8 * bx + 7) (columns - 1)) }

@@ -30,9 +30,13 @@ pub fn stored_piece(
     requires level { level < store.now.head.levels }
     requires placed { IsNearZero bx by }
     requires cells { IsPart bx by cells }
+
+    // The patch predicts the cells as the next coarser level does, and there are as many places as cells.
     requires patch { IsPatchOf bx by patch.now }
     requires predicts { Predicts patch.now store.now level cells }
     requires places { length out.old ≡ area cells }
+
+    // The places get the terrain's level heights.
     ensures { IsPieceUpTo (length out.new) (level_height store.now.terrain level) cells out.new }
 {
     pieces_of_blocks();

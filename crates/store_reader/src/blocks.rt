@@ -66,6 +66,8 @@ fn patch_over(grid: &Grid, bx: i32, by: i32) -> Patch
     requires east { bx ≤ℤ pos (2 ^ 24) }
     requires north { pos 0 ≤ℤ by }
     requires south { by ≤ℤ pos (2 ^ 24) }
+
+    // It stands round the block, and predicts as the coarser level does.
     ensures column { result.i0 ≡ pos 4 *ℤ bx -ℤ pos 1 }
     ensures row { result.j0 ≡ pos 4 *ℤ by -ℤ pos 1 }
     ensures predictions { (i j : ℤ) → IsOfBlock (pos 4 *ℤ bx -ℤ pos 1) i → IsOfBlock (pos 4 *ℤ by -ℤ pos 1) j
@@ -141,6 +143,8 @@ pub(crate) fn decode(
     requires step { IsStep step }
     requires content { length content.now < 65536 }
     requires places { length out.old ≡ area place.cells }
+
+    // The places get the block's heights, or its fault is told.
     ensures places { length out.new ≡ area place.cells }
     ensures heights { OnOk result (IsDecoded source.entry step place.cells content.now out.new) }
     ensures fault { IfErr result (λ fault. IsFaultIn source.entry step place content.now fault) }

@@ -54,6 +54,8 @@ fn cells_of(bx: u32, by: u32, columns: u32, rows: u32) -> Region
     requires row { 8 * by < rows }
     requires wide { columns ≤ 2 ^ 26 }
     requires high { rows ≤ 2 ^ 26 }
+
+    // It has the block's eight columns and rows, as far as the terrain goes.
     ensures west { result.x0 ≡ pos (8 * bx) }
     ensures north { result.y0 ≡ pos (8 * by) }
     ensures east { result.x1 ≡ pos (min (8 * bx + 7) (columns - 1)) }
@@ -82,6 +84,8 @@ pub(crate) fn place_of(header: Header, level: u8, k: u32) -> Place
     requires header { IsReadable header }
     requires level { level < header.levels }
     requires block { k < block_count header.width header.height level }
+
+    // It is the place of that block, and its cells lie in the level.
     ensures place { IsPlaceOf (head_of header) level k result }
     ensures sound { IsSoundPlace result }
     ensures east { result.cells.x1 <ℤ pos (cells_on header.width level) }

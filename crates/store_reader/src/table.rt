@@ -50,9 +50,13 @@ pub(crate) fn put_rows(table: &mut [i16], columns: usize, span: Span, heights: &
     requires rows { (span.y0 + span.rows) * columns ≤ length table.old }
     requires few { length table.old ≤ 2 ^ 26 }
     requires near { span.y0 + span.rows ≤ 2 ^ 26 }
+
+    // There is a height for each place of the span.
     requires heights { length heights.now ≡ span.width * span.rows }
     requires few_columns { span.width ≤ 8 }
     requires few_rows { span.rows ≤ 8 }
+
+    // The span has them, and all else is as it was.
     ensures rows { AreRowsIn span.rows columns span heights.now table.new }
     ensures kept { IsKeptOutside span.rows columns span table.old table.new }
 {

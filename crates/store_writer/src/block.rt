@@ -38,6 +38,8 @@ pub(crate) fn code_at<F: Heights>(
     requires near_column { i ≤ 2 ^ 27 }
     requires near_row { j ≤ 2 ^ 27 }
     requires step { IsStep step }
+
+    // It is the code of the definition, and fits in a word.
     ensures value { result
         ≡ code_over (patch_height predicted.now.patch.now) (F.heights finer.now) step (pos i) (pos j) }
     ensures size { IsResidual result }
@@ -60,7 +62,11 @@ fn push_row<F: Heights>(
     requires first_row { cells.y0 ≤ j }
     requires last_row { j < cells.y0 + cells.rows }
     requires step { IsStep step }
+
+    // There is room for the row's codes.
     requires room { codes.old.count + cells.columns ≤ 64 }
+
+    // The row's codes stand behind the others.
     ensures few { codes.new.count ≤ codes.old.count + cells.columns }
     ensures list { residual_list codes.new
         ≡ residual_list codes.old ++ row_codes

@@ -103,11 +103,15 @@ fn restored_at<F: Heights, C: Heights>(
     requires patch { IsPatchOf cells predicted.now.patch.now }
     requires predictions { (i j : ℤ) → IsOfBlock predicted.now.patch.now.i0 i → IsOfBlock predicted.now.patch.now.j0 j
         → prediction (patch_height predicted.now.patch.now) i j ≡ prediction (C.heights coarser.now) i j }
+
+    // The cell lies in the block.
     requires first_column { cells.x0 ≤ i }
     requires last_column { i < cells.x0 + 8 }
     requires first_row { cells.y0 ≤ j }
     requires last_row { j < cells.y0 + 8 }
     requires step { IsStep step }
+
+    // It is the restored height of the definition.
     ensures { result
         ≡ restored_in (C.heights coarser.now) (F.heights finer.now) step (region_of cells) (pos i) (pos j) }
 {

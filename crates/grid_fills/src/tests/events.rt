@@ -144,6 +144,8 @@ fn finish(
     requires pass { pass < 16 }
     requires many { length jobs.old ≡ 16 }
     requires jobs { HoldsJobs book.old jobs.old }
+
+    // The book is of the same terrain, and holds the jobs that are left.
     ensures land { book.new.land ≡ book.old.land }
     ensures many { length jobs.new ≡ 16 }
     ensures jobs { HoldsJobs book.new jobs.new }
@@ -163,6 +165,8 @@ fn give_back(grid: &Grid, book: &mut Book, jobs: &[Option<Job>], pass: u8, job: 
     requires job { IsJobOf book.old pass job }
     requires free { slice_index_or jobs.now pass None ≡ None }
     requires jobs { HoldsJobs book.old jobs.now }
+
+    // The book is of the same terrain, and holds the jobs that are left.
     ensures land { book.new.land ≡ book.old.land }
     ensures jobs { HoldsJobs book.new jobs.now }
 {
@@ -185,6 +189,8 @@ pub fn take(
     requires land { IsLand book.old.land }
     requires many { length jobs.old ≡ 16 }
     requires jobs { HoldsJobs book.old jobs.old }
+
+    // The book is of the same terrain, and holds the jobs.
     ensures land { book.new.land ≡ book.old.land }
     ensures many { length jobs.new ≡ 16 }
     ensures jobs { HoldsJobs book.new jobs.new }
