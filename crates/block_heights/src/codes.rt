@@ -38,7 +38,7 @@ fn is_coded_in(region: Region, a: usize, b: usize) -> bool
     is_coded(region.x0 + a as i32, region.y0 + b as i32)
 }
 
-/// How many columns and rows a region of a block has.
+// How many columns and rows a region of a block has.
 #[derive(Clone, Copy)]
 pub(crate) struct Sides {
     pub(crate) columns: usize,
@@ -79,7 +79,7 @@ fn code_row(values: &[i32], region: Region, b: usize, width: usize) -> CodeRow
     CodeRow { codes, used }
 }
 
-/// Puts the codes of a region's cells into a table, whose first column and row are those of the region.
+// Puts the codes of a region's cells into a table, whose first column and row are those of the region.
 pub(crate) fn code_table(values: &[i32], region: Region, sides: Sides) -> [[i32; 8]; 8]
     requires placed { IsPlaced region }
     requires width { sides.columns ≤ 8 }
@@ -123,7 +123,7 @@ fn row_count(region: Region, b: usize, width: usize) -> u8
     count
 }
 
-/// How many codes the word of a region's cells has.
+// How many codes the word of a region's cells has.
 pub(crate) fn count_of(region: Region, sides: Sides) -> u8
     requires placed { IsPlaced region }
     requires width { sides.columns ≤ 8 }

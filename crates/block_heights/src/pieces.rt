@@ -20,7 +20,7 @@ use clip_regions::Region;
 use four_point::{BlockPredictions, Patch, bring, predict_block};
 use rice_residuals::{BlockFault, read_block};
 
-/// How many columns and rows a region has.
+// How many columns and rows a region has.
 #[tactic(auto, unfolding(clip_regions::specs::Regions::columns, clip_regions::specs::Regions::rows))]
 pub(crate) fn sides_of(region: Region) -> Sides
     requires { IsSmall region }

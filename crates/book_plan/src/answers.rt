@@ -110,7 +110,7 @@ impl PlanDesk {
         }
     }
 
-    /// What is answered where nothing can be claimed.
+    // What is answered where nothing can be claimed.
     #[tactic(auto, unfolding(plan_model::specs::Claims::no_offer))]
     pub(crate) fn no_offer(&self) -> Answer
         requires { IsStanding self.now }

@@ -11,7 +11,7 @@ use clip_regions::Region;
 use plan_model::{JobNote, Work};
 use std::marker::Model;
 
-/// A frame that was begun: its number, the viewer, and the active regions, the finest first.
+// A frame that was begun: its number, the viewer, and the active regions, the finest first.
 #[derive(Drop)]
 pub(crate) struct PlanFrame {
     pub(crate) number: u64,
@@ -28,8 +28,8 @@ impl Model for PlanFrame {
     ghost view = { λ a. record { number = a.number; x = a.x; y = a.y; actives = a.actives } };
 }
 
-/// K, the viewer and its altitude, the levels with the finest first, the number of frames begun, and what
-/// each pass has.
+// K, the viewer and its altitude, the levels with the finest first, the number of frames begun, and what
+// each pass has.
 #[derive(Drop)]
 pub(crate) struct PlanDesk {
     pub(crate) k: u8,
@@ -57,7 +57,7 @@ impl Model for PlanDesk {
     } };
 }
 
-/// Whether two regions have the same cells.
+// Whether two regions have the same cells.
 #[tactic(auto, unfolding(plan_model::specs::States::same_region))]
 pub(crate) fn same_region(a: Region, b: Region) -> bool
     ensures value { result ≡ same_region a b }
@@ -65,7 +65,7 @@ pub(crate) fn same_region(a: Region, b: Region) -> bool
     a.holds(b) && b.holds(a)
 }
 
-/// The job that a pass has.
+// The job that a pass has.
 pub(crate) fn job_of(pass: &Work<PlanFrame>) -> Option<JobNote>
     ensures value { result ≡ job_of pass.now }
 {
@@ -75,7 +75,7 @@ pub(crate) fn job_of(pass: &Work<PlanFrame>) -> Option<JobNote>
     }
 }
 
-/// Whether a pass has a job or a frame.
+// Whether a pass has a job or a frame.
 pub(crate) fn has_work(pass: &Work<PlanFrame>) -> bool
     ensures value { result ≡ has_work pass.now }
 {

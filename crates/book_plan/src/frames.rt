@@ -32,7 +32,7 @@ fn filled_regions(levels: &[PlanLevel]) -> [Region; 12]
 }
 
 impl PlanDesk {
-    /// The active regions, the finest first: a level that is left out shows nothing.
+    // The active regions, the finest first: a level that is left out shows nothing.
     pub(crate) fn actives(&self) -> Actives
         requires standing { IsStanding self.now }
         ensures value { result ≡ actives_at (state_of self.now) }
@@ -119,7 +119,7 @@ impl PlanDesk {
         Answer::Frame { number }
     }
 
-    /// Pass `p` begins a frame of the active regions.
+    // Pass `p` begins a frame of the active regions.
     #[tactic(auto, unfolding(plan_model::specs::Steps::begin_step))]
     pub(crate) fn begin(&mut self, p: u8) -> Answer
         requires standing { IsStanding self.old }
@@ -138,7 +138,7 @@ impl PlanDesk {
         }
     }
 
-    /// Pass `p` ends its frame.
+    // Pass `p` ends its frame.
     #[tactic(auto, unfolding(plan_model::specs::Steps::end_step))]
     pub(crate) fn end(&mut self, p: u8) -> Answer
         requires standing { IsStanding self.old }

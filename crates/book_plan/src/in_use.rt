@@ -47,8 +47,8 @@ fn is_seen(k: u8, levels: u8, altitude: u32, level: u8) -> bool
     level + 1 == levels || altitude <= power_of_two(k + level)
 }
 
-/// The finest level in use of so many, for a viewer at an altitude: the first that is the coarsest or for
-/// which the altitude is at most 2^(K + level).
+// The finest level in use of so many, for a viewer at an altitude: the first that is the coarsest or for
+// which the altitude is at most 2^(K + level).
 pub(crate) fn finest_used(k: u8, levels: u8, altitude: u32) -> u8
     requires k { IsSize k }
     requires levels { IsLevelCount levels }
@@ -63,7 +63,7 @@ pub(crate) fn finest_used(k: u8, levels: u8, altitude: u32) -> u8
     first.unwrap_or(0)
 }
 
-/// The window of a level for a viewer at sample (`x`, `y`): there is room for the pieces of what lies in it.
+// The window of a level for a viewer at sample (`x`, `y`): there is room for the pieces of what lies in it.
 pub(crate) fn roomy_window(k: u8, level: u8, x: i32, y: i32) -> Region
     requires k { IsSize k }
     requires level { level ≤ 11 }
@@ -98,7 +98,7 @@ fn plan_of(levels: &[PlanLevel], level: u8) -> u64
 }
 
 impl PlanDesk {
-    /// How many levels there are.
+    // How many levels there are.
     pub(crate) fn level_count(&self) -> u8
         requires { IsStanding self.now }
         ensures value { result ≡ length (state_of self.now).levels }
@@ -107,7 +107,7 @@ impl PlanDesk {
         self.levels.len() as u8
     }
 
-    /// The finest level in use.
+    // The finest level in use.
     pub(crate) fn finest(&self) -> u8
         requires { IsStanding self.now }
         ensures value { result ≡ finest_at (state_of self.now) }
@@ -116,7 +116,7 @@ impl PlanDesk {
         finest_used(self.k, self.levels.len() as u8, self.altitude)
     }
 
-    /// Whether a level is in use.
+    // Whether a level is in use.
     #[tactic(auto, unfolding(plan_model::specs::States::is_used))]
     pub(crate) fn is_used(&self, level: u8) -> bool
         requires { IsStanding self.now }
@@ -125,7 +125,7 @@ impl PlanDesk {
         self.finest() <= level
     }
 
-    /// The filled region of a level.
+    // The filled region of a level.
     #[tactic(auto, using(crate::proofs::Shelves::filled_is))]
     pub(crate) fn filled_at(&self, level: u8) -> Region
         requires { level < length self.now.levels }
@@ -134,7 +134,7 @@ impl PlanDesk {
         filled_of(self.levels.as_slice(), level)
     }
 
-    /// The plan number of a level.
+    // The plan number of a level.
     #[tactic(auto, using(crate::proofs::Shelves::plan_is))]
     pub(crate) fn plan_at(&self, level: u8) -> u64
         requires { level < length self.now.levels }
@@ -143,7 +143,7 @@ impl PlanDesk {
         plan_of(self.levels.as_slice(), level)
     }
 
-    /// The window of a level.
+    // The window of a level.
     pub(crate) fn window_at(&self, level: u8) -> Region
         requires standing { IsStanding self.now }
         requires level { level < length self.now.levels }
@@ -153,7 +153,7 @@ impl PlanDesk {
         roomy_window(self.k, level, self.x, self.y)
     }
 
-    /// Whether the level's filled region is its window.
+    // Whether the level's filled region is its window.
     #[tactic(auto, unfolding(plan_model::specs::States::is_whole))]
     pub(crate) fn is_whole(&self, level: u8) -> bool
         requires standing { IsStanding self.now }
@@ -176,7 +176,7 @@ impl PlanDesk {
         current_strip(filled, window)
     }
 
-    /// The current strip of a level, which a level that is left out has not.
+    // The current strip of a level, which a level that is left out has not.
     #[tactic(auto, unfolding(plan_model::specs::Claims::strip_at))]
     pub(crate) fn strip_at(&self, level: u8) -> Option<Region>
         requires standing { IsStanding self.now }
@@ -189,7 +189,7 @@ impl PlanDesk {
         self.first_strip(level)
     }
 
-    /// The job that a pass has.
+    // The job that a pass has.
     pub(crate) fn job_at(&self, p: u8) -> Option<JobNote>
         requires { p < length self.now.passes }
         ensures value { result ≡ job_of (pass_at (state_of self.now) p) }
@@ -197,7 +197,7 @@ impl PlanDesk {
         job_in(self.passes.as_slice(), p)
     }
 
-    /// The number of the frame that a pass has.
+    // The number of the frame that a pass has.
     pub(crate) fn frame_at(&self, p: u8) -> Option<u64>
         requires { p < length self.now.passes }
         ensures value { result ≡ number_of (frame_of (pass_at (state_of self.now) p)) }
@@ -205,7 +205,7 @@ impl PlanDesk {
         frame_in(self.passes.as_slice(), p)
     }
 
-    /// Whether a pass has a job or a frame.
+    // Whether a pass has a job or a frame.
     pub(crate) fn has_work(&self, p: u8) -> bool
         requires { p < length self.now.passes }
         ensures value { result ≡ has_work (pass_at (state_of self.now) p) }
@@ -221,7 +221,7 @@ impl PlanDesk {
         put_pass(self.passes.as_mut_slice(), p, new);
     }
 
-    /// The pass that holds the tile of a level.
+    // The pass that holds the tile of a level.
     #[tactic(auto, unfolding(plan_model::specs::Tiles::holder))]
     pub(crate) fn holder(&self, level: u8, t: TileId) -> Option<u8>
         requires { IsStanding self.now }
@@ -230,7 +230,7 @@ impl PlanDesk {
         holder_of(self.k, self.passes.as_slice(), level, t)
     }
 
-    /// The least number of a frame that pins the tile of a level.
+    // The least number of a frame that pins the tile of a level.
     #[tactic(auto, unfolding(plan_model::specs::Tiles::pinner, plan_model::specs::Tiles::pinning_frames))]
     pub(crate) fn pinner(&self, level: u8, t: TileId) -> Option<u64>
         requires { IsStanding self.now }
@@ -239,7 +239,7 @@ impl PlanDesk {
         pinner_of(self.k, self.passes.as_slice(), level, t)
     }
 
-    /// The first held tile of a level that a region meets.
+    // The first held tile of a level that a region meets.
     pub(crate) fn first_held(&self, level: u8, region: Region) -> Option<TileId>
         requires { IsStanding self.now }
         ensures value { result ≡ first_of (held_tiles (state_of self.now) level region) }

@@ -63,7 +63,7 @@ fn open_of(levels: &[PlanLevel], level: u8) -> u32
 }
 
 impl PlanDesk {
-    /// Pass `p` claims the first claimable piece.
+    // Pass `p` claims the first claimable piece.
     #[tactic(auto, unfolding(plan_model::specs::Steps::claim_step))]
     pub(crate) fn claim(&mut self, p: u8) -> Answer
         requires standing { IsStanding self.old }
@@ -143,8 +143,8 @@ impl PlanDesk {
         self.drop_job(p, job)
     }
 
-    /// Pass `p` gives its job back. A pass without a job has none to give back: the answer is Idle, and
-    /// nothing changes.
+    // Pass `p` gives its job back. A pass without a job has none to give back: the answer is Idle, and
+    // nothing changes.
     #[tactic(auto, unfolding(plan_model::specs::Steps::finish_step))]
     pub(crate) fn finish(&mut self, p: u8) -> Answer
         requires standing { IsStanding self.old }
@@ -159,7 +159,7 @@ impl PlanDesk {
         }
     }
 
-    /// How many pieces of a level's current strip aren't finished.
+    // How many pieces of a level's current strip aren't finished.
     pub(crate) fn unfinished_count(&self, level: u8) -> u32
         requires standing { IsStanding self.now }
         requires level { level < length self.now.levels }
@@ -202,8 +202,8 @@ impl PlanDesk {
         Answer::Grown { region }
     }
 
-    /// The filled region of a level takes its current strip in, where all of the strip's pieces are
-    /// finished.
+    // The filled region of a level takes its current strip in, where all of the strip's pieces are
+    // finished.
     #[tactic(auto, unfolding(plan_model::specs::Steps::publish_step))]
     pub(crate) fn publish(&mut self, level: u8) -> Answer
         requires standing { IsStanding self.old }

@@ -17,11 +17,11 @@ use std::alloc::{AllocError, Global};
 use std::marker::Model;
 use strip_planner::pieces;
 
-/// How many pieces a strip of a window has at most.
+// How many pieces a strip of a window has at most.
 pub(crate) const MOST_PIECES: usize = 1089;
 
-/// A level: its filled region, its plan number, and the pieces of its current strip in their order, each
-/// with a bit that says whether it is finished. It has room for the pieces of every strip.
+// A level: its filled region, its plan number, and the pieces of its current strip in their order, each
+// with a bit that says whether it is finished. It has room for the pieces of every strip.
 #[derive(Drop)]
 pub(crate) struct PlanLevel {
     filled: Region,
@@ -158,8 +158,8 @@ fn count_open(slots: &[Slot]) -> u32
 }
 
 impl PlanLevel {
-    /// A level of which nothing is filled, with room for the pieces of every strip. It fails where memory
-    /// runs out.
+    // A level of which nothing is filled, with room for the pieces of every strip. It fails where memory
+    // runs out.
     pub(crate) fn new(alloc: Global) -> Result<PlanLevel, AllocError>
         ensures { IfOk result (λ level. level ≡ empty_shelf) }
     {
@@ -172,21 +172,21 @@ impl PlanLevel {
         })
     }
 
-    /// The level's filled region.
+    // The level's filled region.
     pub(crate) fn filled(&self) -> Region
         ensures { result ≡ self.now.filled }
     {
         self.filled
     }
 
-    /// The level's plan number.
+    // The level's plan number.
     pub(crate) fn plan(&self) -> u64
         ensures { result ≡ self.now.plan }
     {
         self.plan
     }
 
-    /// Another filled region, plan number and current strip, of which no piece is finished.
+    // Another filled region, plan number and current strip, of which no piece is finished.
     pub(crate) fn refill(&mut self, filled: Region, plan: u64, strip: Option<Region>)
         requires planned { IfSome strip IsPlanned }
         requires few { length (strip_pieces strip) ≤ 1089 }
@@ -199,7 +199,7 @@ impl PlanLevel {
         self.first = next_open(self.slots.as_slice(), 0);
     }
 
-    /// Marks the piece of a block finished.
+    // Marks the piece of a block finished.
     pub(crate) fn mark(&mut self, piece: Piece)
         requires { HaveDifferentBlocks self.old.slots }
         ensures { self.new ≡ record self.old { slots = map (marked_slot piece) self.old.slots } }
@@ -207,14 +207,14 @@ impl PlanLevel {
         self.first = mark_and_go_on(self.slots.as_mut_slice(), self.first, piece);
     }
 
-    /// Whether all pieces of the current strip are finished, or there is no strip.
+    // Whether all pieces of the current strip are finished, or there is no strip.
     pub(crate) fn is_done(&self) -> bool
         ensures { result ≡ true → open_pieces self.now.slots ≡ [] }
     {
         self.first == self.slots.len()
     }
 
-    /// The first piece of the current strip that isn't finished.
+    // The first piece of the current strip that isn't finished.
     pub(crate) fn first_open(&self) -> Option<Piece>
         ensures { result ≡ first_of (open_pieces self.now.slots) }
     {
@@ -224,21 +224,21 @@ impl PlanLevel {
         None
     }
 
-    /// The slots of the current strip's pieces, in the strip's order.
+    // The slots of the current strip's pieces, in the strip's order.
     pub(crate) fn slots(&self) -> &[Slot]
         ensures { result.now ≡ self.now.slots }
     {
         self.slots.as_slice()
     }
 
-    /// The first slot that is open: the count of slots where none is.
+    // The first slot that is open: the count of slots where none is.
     pub(crate) fn first(&self) -> usize
         ensures { IsFirstOpen self.now.slots result }
     {
         self.first
     }
 
-    /// How many pieces of the current strip aren't finished.
+    // How many pieces of the current strip aren't finished.
     pub(crate) fn open_count(&self) -> u32
         ensures { result ≡ length (open_pieces self.now.slots) }
     {

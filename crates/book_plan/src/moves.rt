@@ -82,7 +82,7 @@ fn strip_where(used: bool, filled: Region, window: Region) -> Option<Region>
     current_strip(filled, window)
 }
 
-/// Gives a level another filled region and plan number in its window, with no piece finished.
+// Gives a level another filled region and plan number in its window, with no piece finished.
 pub(crate) fn fill_in(level: &mut PlanLevel, used: bool, filled: Region, plan: u64, window: Region)
     requires filled { IsFilledIn filled window }
     requires window { IsRoomy window }
@@ -189,8 +189,8 @@ impl PlanDesk {
         self.set_viewer(to);
     }
 
-    /// The viewer moves to sample (`x`, `y`) of the mosaic, each from −4194304 to 4194304, at altitude `a`,
-    /// up to 1048576.
+    // The viewer moves to sample (`x`, `y`) of the mosaic, each from −4194304 to 4194304, at altitude `a`,
+    // up to 1048576.
     pub(crate) fn move_to(&mut self, x: i32, y: i32, a: u32) -> Answer
         requires standing { IsStanding self.old }
         requires viewer { IsViewer x y a }

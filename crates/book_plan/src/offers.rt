@@ -20,7 +20,7 @@ use plan_model::{JobNote, Piece, TileId};
 use strip_planner::{need, tile_of};
 
 impl PlanDesk {
-    /// The torus tile of a piece.
+    // The torus tile of a piece.
     pub(crate) fn tile_of_piece(&self, piece: Piece) -> TileId
         requires { IsStanding self.now }
         ensures value { result ≡ tile_of_piece (state_of self.now) piece }
@@ -194,8 +194,8 @@ impl PlanDesk {
         first
     }
 
-    /// The job that the first piece that can be claimed makes: the levels in use from the coarsest, each
-    /// strip's pieces in their order.
+    // The job that the first piece that can be claimed makes: the levels in use from the coarsest, each
+    // strip's pieces in their order.
     pub(crate) fn first_job(&self) -> Option<JobNote>
         requires { IsStanding self.now }
         ensures { result ≡ option_map (claimed_job (state_of self.now)) (first_of (offers (state_of self.now))) }

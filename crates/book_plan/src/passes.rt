@@ -18,7 +18,7 @@ use clip_regions::Region;
 use plan_model::{JobNote, TileId, Work};
 use strip_planner::{meets_tile, tile_of};
 
-/// The job of one of some passes.
+// The job of one of some passes.
 pub(crate) fn job_in(passes: &[Work<PlanFrame>], p: u8) -> Option<JobNote>
     requires { p < length passes.now }
     ensures value { result ≡ job_of (slice_index_or passes.now p Free) }
@@ -36,7 +36,7 @@ fn frame_number(pass: &Work<PlanFrame>) -> Option<u64>
     }
 }
 
-/// The number of the frame of one of some passes.
+// The number of the frame of one of some passes.
 pub(crate) fn frame_in(passes: &[Work<PlanFrame>], p: u8) -> Option<u64>
     requires { p < length passes.now }
     ensures value { result ≡ number_of (frame_of (slice_index_or passes.now p Free)) }
@@ -44,7 +44,7 @@ pub(crate) fn frame_in(passes: &[Work<PlanFrame>], p: u8) -> Option<u64>
     frame_number(&passes[p as usize])
 }
 
-/// Whether one of some passes has a job or a frame.
+// Whether one of some passes has a job or a frame.
 pub(crate) fn works(passes: &[Work<PlanFrame>], p: u8) -> bool
     requires { p < length passes.now }
     ensures value { result ≡ has_work (slice_index_or passes.now p Free) }
@@ -52,7 +52,7 @@ pub(crate) fn works(passes: &[Work<PlanFrame>], p: u8) -> bool
     has_work(&passes[p as usize])
 }
 
-/// Puts another pass in the place of one.
+// Puts another pass in the place of one.
 pub(crate) fn put_pass(passes: &mut [Work<PlanFrame>], p: u8, new: Work<PlanFrame>)
     requires { p < length passes.old }
     ensures value { passes.new ≡ slice_set passes.old p new }
@@ -79,7 +79,7 @@ fn job_holds(k: u8, level: u8, t: TileId, job: Option<JobNote>) -> bool
     }
 }
 
-/// The first of some passes whose job holds the tile of a level.
+// The first of some passes whose job holds the tile of a level.
 pub(crate) fn holder_of(k: u8, passes: &[Work<PlanFrame>], level: u8, t: TileId) -> Option<u8>
     requires k { IsSize k }
     requires few { length passes.now ≤ 256 }
@@ -94,7 +94,7 @@ pub(crate) fn holder_of(k: u8, passes: &[Work<PlanFrame>], level: u8, t: TileId)
     first
 }
 
-/// The first number that was found, where one was or `p` is.
+// The first number that was found, where one was or `p` is.
 pub(crate) fn or_found(first: Option<u8>, found: bool, p: u8) -> Option<u8>
     ensures value { result ≡ or_found first found p }
 {
@@ -151,7 +151,7 @@ fn lesser_of(least: Option<u64>, other: Option<u64>) -> Option<u64>
     }
 }
 
-/// The least number of a frame, of some passes, that pins the tile of a level.
+// The least number of a frame, of some passes, that pins the tile of a level.
 pub(crate) fn pinner_of(k: u8, passes: &[Work<PlanFrame>], level: u8, t: TileId) -> Option<u64>
     requires k { IsSize k }
     ensures value { result ≡ fold lesser None (flat_map (λ pass. pins_of k level t (frame_of pass)) passes.now) }
@@ -201,7 +201,7 @@ fn job_under(k: u8, level: u8, region: Region, job: Option<JobNote>) -> Option<T
     }
 }
 
-/// The earliest tile of a level that a region meets and that a job of some passes has.
+// The earliest tile of a level that a region meets and that a job of some passes has.
 #[tactic(auto, unfolding(crate::specs::Found::first_under))]
 pub(crate) fn first_under(
     k: u8,

@@ -1,6 +1,6 @@
 //! Where a viewer stands.
 
-/// Where a viewer stands: a sample of the mosaic, and the altitude.
+// Where a viewer stands: a sample of the mosaic, and the altitude.
 #[derive(Clone, Copy)]
 pub(crate) struct Viewer {
     pub(crate) x: i32,

@@ -107,7 +107,7 @@ pub enum Ended {
     NoFrame,
 }
 
-/// The job that an answer tells.
+// The job that an answer tells.
 pub(crate) fn told_job(answer: Answer) -> Option<JobNote>
     ensures { result ≡ told_job answer }
 {
@@ -127,7 +127,7 @@ pub(crate) fn told_job(answer: Answer) -> Option<JobNote>
     }
 }
 
-/// The number of the frame that an answer tells.
+// The number of the frame that an answer tells.
 pub(crate) fn told_frame(answer: Answer) -> Option<u64>
     ensures { result ≡ told_frame answer }
 {
@@ -137,7 +137,7 @@ pub(crate) fn told_frame(answer: Answer) -> Option<u64>
     }
 }
 
-/// The refusal of a claim.
+// The refusal of a claim.
 pub(crate) fn refused_claim(answer: Answer) -> Claimed
     requires { IsRefusedClaim answer }
     ensures { said_of_claim result ≡ answer }
@@ -152,7 +152,7 @@ pub(crate) fn refused_claim(answer: Answer) -> Claimed
     }
 }
 
-/// What a job that is given back is answered.
+// What a job that is given back is answered.
 pub(crate) fn given_answer(answer: Answer) -> Given
     requires { IsGivenAnswer answer }
     ensures { said_of_given result ≡ answer }
@@ -164,7 +164,7 @@ pub(crate) fn given_answer(answer: Answer) -> Given
     }
 }
 
-/// What a publication is answered.
+// What a publication is answered.
 pub(crate) fn published_answer(answer: Answer) -> Published
     requires { IsPublishedAnswer answer }
     ensures { said_of_published result ≡ answer }
@@ -177,7 +177,7 @@ pub(crate) fn published_answer(answer: Answer) -> Published
     }
 }
 
-/// The beginning of the frame of a number, by what is told of the frame.
+// The beginning of the frame of a number, by what is told of the frame.
 pub(crate) fn begun_frame(number: u64, note: Option<FrameNote>) -> Begun
     requires { IsSome note }
     ensures said { said_of_begun result ≡ Frame number }
@@ -192,7 +192,7 @@ pub(crate) fn begun_frame(number: u64, note: Option<FrameNote>) -> Begun
     }
 }
 
-/// The refusal of a frame's beginning.
+// The refusal of a frame's beginning.
 pub(crate) fn refused_begin(answer: Answer) -> Begun
     requires { IsRefusedBegin answer }
     ensures { said_of_begun result ≡ answer }
@@ -204,7 +204,7 @@ pub(crate) fn refused_begin(answer: Answer) -> Begun
     }
 }
 
-/// What a frame's end is answered.
+// What a frame's end is answered.
 pub(crate) fn ended_answer(answer: Answer) -> Ended
     requires { IsEndedAnswer answer }
     ensures { said_of_ended result ≡ answer }

@@ -52,7 +52,7 @@ impl Model for FilledJob {
 }
 
 impl Job {
-    /// A job of a terrain, with its patch and its tile.
+    // A job of a terrain, with its patch and its tile.
     pub(crate) fn new(land: Snapshot<Shape>, note: JobNote, patch: Patch, tile: Box<Tile>) -> Job
         requires { IsJob land.value note patch }
         ensures { result ≡ record { land = land.value; note = note; patch = patch; tile = tile.value } }

@@ -36,7 +36,7 @@ fn block_patch(tiles: &Tiles, level: u8, region: Region, piece: Piece) -> Patch
     tiles.patch(level, region, corner(piece.bx), corner(piece.by))
 }
 
-/// The patch of a job, with the coarser heights of its need.
+// The patch of a job, with the coarser heights of its need.
 pub(crate) fn job_patch(tiles: &Tiles, shape: &Shape, note: JobNote) -> Patch
     requires levels { length tiles.now.grids ≡ shape.now.levels }
     requires level { note.level < shape.now.levels }

@@ -15,7 +15,7 @@ use std::marker::Model;
 use std::snapshot::Snapshot;
 use torus_grid::{Tile, Torus};
 
-/// The 64 heights of a tile as it was handed out. It has no bytes.
+// The 64 heights of a tile as it was handed out. It has no bytes.
 #[derive(Drop)]
 pub(crate) struct Handed {
     heights: Snapshot<Tile>,
@@ -29,7 +29,7 @@ impl Model for Handed {
     ghost view = { λ s. s.heights.value };
 }
 
-/// The torus of each level, the finest first, and what each pass was handed.
+// The torus of each level, the finest first, and what each pass was handed.
 #[derive(Drop)]
 pub(crate) struct Tiles {
     grids: Vec<Torus>,
@@ -212,7 +212,7 @@ fn seen_patch(torus: &Torus, region: Region, i0: i32, j0: i32) -> Patch
 }
 
 impl Tiles {
-    /// The tiles of so many levels, all of them at home, and 16 passes that were handed nothing.
+    // The tiles of so many levels, all of them at home, and 16 passes that were handed nothing.
     pub(crate) fn start(alloc: Global, k: u8, levels: u8) -> Result<Tiles, AllocError>
         requires { IsSize k }
         ensures { IfOk result (λ t. t ≡ record { grids = replicate levels (new_grid k); handed = replicate 16 None }) }
@@ -222,7 +222,7 @@ impl Tiles {
         Ok(Tiles { grids, handed })
     }
 
-    /// Hands the tile of a level out to a pass.
+    // Hands the tile of a level out to a pass.
     pub(crate) fn take_out(&mut self, pass: u8, level: u8, tile: TileId) -> Box<Tile>
         requires level { level < length self.old.grids }
         requires pass { pass < length self.old.handed }
@@ -241,7 +241,7 @@ impl Tiles {
         out
     }
 
-    /// Takes the tile of a level back from a pass.
+    // Takes the tile of a level back from a pass.
     pub(crate) fn bring_home(&mut self, level: u8, tile: TileId, back: Box<Tile>)
         requires level { level < length self.old.grids }
         requires there { IsTrue (has_tile (grid_on self.old.grids level).k tile) }
@@ -256,8 +256,8 @@ impl Tiles {
         put_in(self.grids.as_mut_slice(), level, tile, back)
     }
 
-    /// The patch of seven by seven cells of a level from column `i0` and row `j0` on: the heights of the cells of
-    /// a region, whose tiles are at home, and 0 elsewhere.
+    // The patch of seven by seven cells of a level from column `i0` and row `j0` on: the heights of the cells of
+    // a region, whose tiles are at home, and 0 elsewhere.
     pub(crate) fn patch(&self, level: u8, region: Region, i0: i32, j0: i32) -> Patch
         requires level { level < length self.now.grids }
         requires home { AreHome (grid_on self.now.grids level) region }
@@ -274,7 +274,7 @@ impl Tiles {
         seen_patch(&self.grids[level as usize], region, i0, j0)
     }
 
-    /// The height of the cell in column `i` and row `j` of a level, in metres. Its tile is at home.
+    // The height of the cell in column `i` and row `j` of a level, in metres. Its tile is at home.
     pub(crate) fn height(&self, level: u8, i: i32, j: i32) -> i16
         requires level { level < length self.now.grids }
         requires home { IsTrue

@@ -18,12 +18,12 @@ use std::alloc::{AllocError, Global};
 use std::marker::Model;
 use terrain_store::Shape;
 
-/// There was no memory.
+// There was no memory.
 #[derive(Debug, Clone, Copy, PartialEq, Eq)]
 pub(crate) struct NoMemory;
 
-/// A book whose jobs are filled as soon as they are claimed, so that any of them can be given back. A contract sees the
-/// book.
+// A book whose jobs are filled as soon as they are claimed, so that any of them can be given back. A contract sees the
+// book.
 #[derive(Drop)]
 pub(crate) struct Desk {
     book: Book,
@@ -127,7 +127,7 @@ fn told_ended(ended: Ended) -> Answer
 }
 
 impl Desk {
-    /// The book of a terrain at the start, for K from 4 to 8. It fails where memory runs out.
+    // The book of a terrain at the start, for K from 4 to 8. It fails where memory runs out.
     pub(crate) fn start(alloc: Global, shape: Shape, k: u8) -> Result<Desk, NoMemory>
         requires size { IsSize k }
         ensures plan { IfOk result (λ desk. desk.plan ≡ started k shape) }
@@ -142,7 +142,7 @@ impl Desk {
         Ok(Desk { book, jobs })
     }
 
-    /// The book.
+    // The book.
     pub(crate) fn book(&self) -> &Book
         ensures { result.now ≡ self.now }
     {
@@ -187,8 +187,8 @@ impl Desk {
         }
     }
 
-    /// Takes an event of a pass, and answers it. A job that is claimed is filled at once. There are at most 2^40 moves
-    /// and as many frames.
+    // Takes an event of a pass, and answers it. A job that is claimed is filled at once. There are at most 2^40 moves
+    // and as many frames.
     pub(crate) fn take<F: Filler>(&mut self, filler: &F, pass: u8, event: Event) -> Answer
         requires land { F.land filler.now ≡ self.old.land }
         requires asked { IsAsked (length self.old.plan.state.levels) pass event }

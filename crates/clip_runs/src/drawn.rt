@@ -24,12 +24,12 @@ use run_actions::{Halt, put, write};
 use std::alloc::{AllocError, Global};
 use std::thread::Threads;
 
-/// A frame, drawn.
+// A frame, drawn.
 #[derive(Drop)]
 pub(crate) struct Drawn {
-    /// Its OBJ text.
+    // Its OBJ text.
     pub(crate) text: Vec<u8>,
-    /// The line for the output.
+    // The line for the output.
     pub(crate) line: String,
 }
 
@@ -48,7 +48,7 @@ fn header_of(note: &FrameNote) -> Header
     }
 }
 
-/// The name of a frame's file.
+// The name of a frame's file.
 #[tactic(auto, unfolding(crate::specs::Frames::frame_name))]
 pub(crate) fn frame_name(alloc: Global, name: &str, number: u64) -> Result<String, AllocError>
     ensures name { IfOk result (λ file. string_bytes file ≡ frame_name name.now number) }
@@ -56,7 +56,7 @@ pub(crate) fn frame_name(alloc: Global, name: &str, number: u64) -> Result<Strin
     format!(in alloc; "{name}-{number}.obj")
 }
 
-/// Draws the frame of a pass that ends it. Its text is made in the room of another text.
+// Draws the frame of a pass that ends it. Its text is made in the room of another text.
 pub(crate) fn draw_whole<R: Threads + Sync>(
     rt: &R,
     alloc: Global,
@@ -85,7 +85,7 @@ pub(crate) fn draw_whole<R: Threads + Sync>(
     Ok(Drawn { text, line })
 }
 
-/// Draws the frame of a pass that is told of alone, by its number and what its text has.
+// Draws the frame of a pass that is told of alone, by its number and what its text has.
 pub(crate) fn draw_alone<R: Threads + Sync>(
     rt: &R,
     alloc: Global,
@@ -125,7 +125,7 @@ fn kept_flags(alloc: Global, parts: &[Part], view: &View) -> Result<Vec<bool>, A
         .collect(alloc)
 }
 
-/// Draws the parts of a pass's frame that a view keeps.
+// Draws the parts of a pass's frame that a view keeps.
 pub(crate) fn draw_seen(
     alloc: Global,
     book: &Book,
@@ -162,7 +162,7 @@ pub(crate) fn draw_seen(
     })
 }
 
-/// Puts a frame under a name, and then writes its line.
+// Puts a frame under a name, and then writes its line.
 pub(crate) fn put_frame<S: Shelf, K: Sink>(
     shelf: &mut S,
     out: &mut K,

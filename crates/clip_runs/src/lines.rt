@@ -11,7 +11,7 @@ use std::alloc::{AllocError, Global};
 use std::fmt;
 use std::fmt::Write;
 
-/// The line of an event of a pass and its answer.
+// The line of an event of a pass and its answer.
 pub(crate) fn event_line(
     alloc: Global,
     pass: u8,
@@ -27,7 +27,7 @@ pub(crate) fn event_line(
     }
 }
 
-/// The line of a frame that was drawn alone, and how many vertices and triangles its text has.
+// The line of a frame that was drawn alone, and how many vertices and triangles its text has.
 pub(crate) fn frame_line(
     alloc: Global,
     number: u64,
@@ -39,7 +39,7 @@ pub(crate) fn frame_line(
     format!(in alloc; "frame {number} vertices {vertices} triangles {triangles}\n")
 }
 
-/// The line of the end of a frame: its pass, its number, and how many vertices and triangles its text has.
+// The line of the end of a frame: its pass, its number, and how many vertices and triangles its text has.
 #[tactic(auto, unfolding(crate::specs::Lines::closed_line))]
 pub(crate) fn closed_line(
     alloc: Global,
@@ -53,16 +53,16 @@ pub(crate) fn closed_line(
     format!(in alloc; "end {pass}: closed {number} vertices {vertices} triangles {triangles}\n")
 }
 
-/// How much of a frame a view keeps.
+// How much of a frame a view keeps.
 #[derive(Clone, Copy)]
 pub(crate) struct KeptCounts {
-    /// How many parts.
+    // How many parts.
     pub(crate) kept: usize,
-    /// How many parts there are.
+    // How many parts there are.
     pub(crate) parts: usize,
-    /// How many vertices the kept parts have.
+    // How many vertices the kept parts have.
     pub(crate) vertices: usize,
-    /// How many triangles they have.
+    // How many triangles they have.
     pub(crate) triangles: usize,
 }
 
@@ -80,7 +80,7 @@ fn kept_text(
     format!(in alloc; "endseen {pass}: closed {number} kept {kept} of {parts}")
 }
 
-/// The line of the end of a frame of which some parts are written.
+// The line of the end of a frame of which some parts are written.
 #[tactic(auto, unfolding(crate::specs::Lines::closed_seen_line))]
 pub(crate) fn closed_seen_line(
     alloc: Global,
@@ -97,7 +97,7 @@ pub(crate) fn closed_seen_line(
     format!(in alloc; "{text} vertices {vertices} triangles {triangles}\n")
 }
 
-/// The line of such an end of a pass without a frame.
+// The line of such an end of a pass without a frame.
 #[tactic(auto, unfolding(crate::specs::Lines::unseen_line))]
 pub(crate) fn unseen_line(alloc: Global, pass: u8) -> Result<String, AllocError>
     ensures line { IfOk result (λ line. string_bytes line ≡ unseen_line pass) }
@@ -132,7 +132,7 @@ fn append_spaces(line: &mut String, spaces: &[HalfSpace]) -> Result<(), AllocErr
     Ok(())
 }
 
-/// The line of a view.
+// The line of a view.
 #[tactic(auto, unfolding(crate::specs::Lines::view_line))]
 pub(crate) fn view_line(alloc: Global, view: &View) -> Result<String, AllocError>
     ensures line { IfOk result (λ line. string_bytes line ≡ view_line view.now) }

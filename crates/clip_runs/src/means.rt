@@ -4,14 +4,14 @@ use decode_workers::Filler;
 use std::alloc::Global;
 use std::thread::Threads;
 
-/// What a run works with.
+// What a run works with.
 #[derive(Clone, Copy)]
 pub(crate) struct Means<'a, R: Threads + Sync, F: Filler> {
-    /// What starts the threads that print a frame.
+    // What starts the threads that print a frame.
     pub(crate) rt: &'a R,
     pub(crate) alloc: Global,
-    /// What fills the jobs.
+    // What fills the jobs.
     pub(crate) filler: &'a F,
-    /// The name of the files.
+    // The name of the files.
     pub(crate) name: &'a str,
 }

@@ -30,7 +30,7 @@ use std::alloc::Global;
 use std::mem;
 use std::thread::Threads;
 
-/// A play between two steps: its book, and the view.
+// A play between two steps: its book, and the view.
 #[derive(Drop)]
 pub(crate) struct Stage {
     pub(crate) desk: Desk,
@@ -273,7 +273,7 @@ fn take_steps<R: Threads + Sync, F: Filler, S: Shelf, K: Sink>(
     Ok(())
 }
 
-/// Takes the steps of a play script, one after another.
+// Takes the steps of a play script, one after another.
 #[tactic(auto, unfolding(crate::specs::Plays::play_actions))]
 pub(crate) fn play<R: Threads + Sync, F: Filler, S: Shelf, K: Sink>(
     means: &Means<'_, R, F>,

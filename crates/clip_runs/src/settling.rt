@@ -92,7 +92,7 @@ fn fill_next<F: Filler>(filler: &F, desk: &mut Desk) -> bool
     }
 }
 
-/// Fills a book at rest until every level in use is whole.
+// Fills a book at rest until every level in use is whole.
 pub(crate) fn settle<F: Filler>(filler: &F, desk: &mut Desk)
     requires land { F.land filler.now ≡ desk.old.land }
     requires rest { IsAtRest desk.old.plan.state }

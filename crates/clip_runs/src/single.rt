@@ -65,7 +65,7 @@ fn begin_whole<F: Filler>(filler: &F, desk: &mut Desk) -> FrameNote
     }
 }
 
-/// Draws frame 0 of the windows round a viewer, all of them whole, puts it and writes its line.
+// Draws frame 0 of the windows round a viewer, all of them whole, puts it and writes its line.
 pub(crate) fn single_frame<R: Threads + Sync, F: Filler, S: Shelf, K: Sink>(
     means: &Means<'_, R, F>,
     k: u8,

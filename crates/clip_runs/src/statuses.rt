@@ -5,7 +5,7 @@ ghost use Rattle.clip_runs.specs.Statuses.{IsRunStatus, ended_by, run_status};
 
 use run_actions::Halt;
 
-/// The status of a run.
+// The status of a run.
 pub(crate) fn run_status(run: Result<(), Halt>) -> u8
     ensures value { result ≡ run_status run }
     ensures status { IsRunStatus result }

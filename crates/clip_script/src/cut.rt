@@ -4,12 +4,12 @@ ghost use Rattle.std.specs.Prelude.{◌≡◌, ◌+◌, ◌<◌, ◌≤◌, ◌=
 ghost use Rattle.std.specs.List.{position_or_len};
 ghost use Rattle.clip_script.specs.Lines.{is_skipped, lines, words, words_after, IsNextWord};
 
-/// The front of a text, and what is left of it.
+// The front of a text, and what is left of it.
 #[derive(Clone, Copy)]
 pub(crate) struct Cut<'a> {
-    /// A line, or a word.
+    // A line, or a word.
     pub(crate) front: &'a [u8],
-    /// The text behind it.
+    // The text behind it.
     pub(crate) rest: &'a [u8],
 }
 
@@ -38,7 +38,7 @@ fn text_behind(text: &[u8], at: usize) -> &[u8]
     }
 }
 
-/// The first line of a text that isn't empty, and the text behind its line feed.
+// The first line of a text that isn't empty, and the text behind its line feed.
 pub(crate) fn next_line(text: &[u8]) -> Cut<'_>
     requires { 0 < length text.now }
     ensures value { lines text.now ≡ result.front.now ∷ lines result.rest.now }
@@ -51,7 +51,7 @@ pub(crate) fn next_line(text: &[u8]) -> Cut<'_>
     }
 }
 
-/// The first word of a line, and what stands behind it, with the space before it.
+// The first word of a line, and what stands behind it, with the space before it.
 pub(crate) fn first_word(line: &[u8]) -> Cut<'_>
     ensures value { words line.now ≡ result.front.now ∷ words_after result.rest.now }
     ensures shorter { length result.rest.now ≤ length line.now }
@@ -63,7 +63,7 @@ pub(crate) fn first_word(line: &[u8]) -> Cut<'_>
     }
 }
 
-/// The next word behind a word, where there is one.
+// The next word behind a word, where there is one.
 pub(crate) fn next_word(rest: &[u8]) -> Option<Cut<'_>>
     ensures value { MatchOption result (rest.now ≡ []) (IsNextWord rest.now) }
 {
@@ -73,7 +73,7 @@ pub(crate) fn next_word(rest: &[u8]) -> Option<Cut<'_>>
     }
 }
 
-/// Whether a line is skipped.
+// Whether a line is skipped.
 pub(crate) fn is_skipped(line: &[u8]) -> bool
     ensures value { result ≡ is_skipped line.now }
 {

@@ -8,35 +8,35 @@ use crate::cut::{is_skipped, next_line};
 use crate::fault::ScriptFault;
 use std::alloc::Global;
 
-/// What a line of some kind says.
+// What a line of some kind says.
 pub(crate) trait Grammar<T> {
-    /// What a line says.
+    // What a line says.
     ghost says: { Self → List ℕ → Option T };
 
-    /// What is true of all that lines say.
+    // What is true of all that lines say.
     ghost fits: { Self → T → Type 0 };
 
-    /// What a line without its line feed says, and `None` where it says nothing.
+    // What a line without its line feed says, and `None` where it says nothing.
     fn read(&self, line: &[u8]) -> Option<T>
         ensures value { result ≡ says self.now line.now }
         ensures fits { IfSome result (fits self.now) };
 }
 
-/// The lines of a script that are left, and how many lines stand before them.
+// The lines of a script that are left, and how many lines stand before them.
 #[derive(Clone, Copy)]
 pub(crate) struct Left<'a> {
     pub(crate) before: u64,
     pub(crate) text: &'a [u8],
 }
 
-/// What a line says that others follow.
+// What a line says that others follow.
 #[derive(Clone, Copy)]
 pub(crate) struct Opening<'a, T> {
     pub(crate) said: T,
     pub(crate) left: Left<'a>,
 }
 
-/// How many lines a text has.
+// How many lines a text has.
 pub(crate) fn line_count(text: &[u8]) -> u64
     ensures value { result ≡ length (lines text.now) }
 {
@@ -49,7 +49,7 @@ pub(crate) fn line_count(text: &[u8]) -> u64
     count
 }
 
-/// What the first line says that isn't skipped.
+// What the first line says that isn't skipped.
 pub(crate) fn read_opening<'a, T: Drop, G: Grammar<T>>(
     grammar: &G,
     left: Left<'a>,
@@ -92,7 +92,7 @@ fn append<T: Drop>(all: &mut Vec<T>, said: T) -> Result<(), ScriptFault>
     }
 }
 
-/// What all lines say that aren't skipped.
+// What all lines say that aren't skipped.
 pub(crate) fn read_all<T: Drop, G: Grammar<T>>(
     alloc: Global,
     grammar: &G,

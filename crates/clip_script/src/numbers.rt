@@ -16,21 +16,21 @@ const VIEWER_LIMIT: u32 = 4_194_304;
 // The greatest altitude of a viewer.
 const ALTITUDE_LIMIT: u64 = 1_048_576;
 
-/// The numbers of a line that has two.
+// The numbers of a line that has two.
 #[derive(Clone, Copy)]
 pub(crate) struct Pair {
-    /// The first.
+    // The first.
     pub(crate) first: u64,
-    /// The second.
+    // The second.
     pub(crate) second: u64,
 }
 
-/// The ranges of two numbers, both ends included.
+// The ranges of two numbers, both ends included.
 #[derive(Clone, Copy)]
 pub(crate) struct Ranges {
-    /// The range of the first.
+    // The range of the first.
     pub(crate) first: (u64, u64),
-    /// The range of the second.
+    // The range of the second.
     pub(crate) second: (u64, u64),
 }
 
@@ -45,7 +45,7 @@ fn last_number(word: Cut<'_>, low: u64, high: u64) -> Option<u64>
     }
 }
 
-/// The one word, as a number from `low` to `high`.
+// The one word, as a number from `low` to `high`.
 pub(crate) fn one_number(rest: &[u8], low: u64, high: u64) -> Option<u64>
     ensures value { result ≡ one_number low high (words_after rest.now) }
     ensures range { IfSome result (IsBetween low high) }
@@ -54,7 +54,7 @@ pub(crate) fn one_number(rest: &[u8], low: u64, high: u64) -> Option<u64>
     last_number(word, low, high)
 }
 
-/// The number of a pass.
+// The number of a pass.
 pub(crate) fn pass_of(rest: &[u8]) -> Option<u8>
     ensures value { result ≡ pass_of (words_after rest.now) }
     ensures range { IfSome result (λ pass. pass < 16) }
@@ -63,7 +63,7 @@ pub(crate) fn pass_of(rest: &[u8]) -> Option<u8>
     Some(pass as u8)
 }
 
-/// The two words, as numbers in these ranges.
+// The two words, as numbers in these ranges.
 pub(crate) fn two_numbers(rest: &[u8], ranges: Ranges) -> Option<Pair>
     ensures value { result ≡ two_numbers ranges (words_after rest.now) }
     ensures first { IfSome result (λ pair. IsBetween ranges.first.0 ranges.first.1 pair.first) }
@@ -100,7 +100,7 @@ fn altitude_of(rest: &[u8]) -> Option<u32>
     }
 }
 
-/// The place of a viewer: `X Y`, at altitude 0, or `X Y A`.
+// The place of a viewer: `X Y`, at altitude 0, or `X Y A`.
 #[tactic(auto, unfolding(crate::specs::Steps::place_of))]
 pub(crate) fn place_of(rest: &[u8]) -> Option<Place>
     ensures value { result ≡ place_of (words_after rest.now) }

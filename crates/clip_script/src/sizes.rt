@@ -33,7 +33,7 @@ impl Grammar<Pair> for SizeLine {
     }
 }
 
-/// Refuses a script of too many lines.
+// Refuses a script of too many lines.
 pub(crate) fn count_lines(bytes: &[u8]) -> Result<(), ScriptFault>
     ensures few { OnOk result (length (lines bytes.now) ≤ 1048577) }
     ensures many { IfErr result (λ fault. fault ≡ ScriptFault.TooMany (length (lines bytes.now))) }
@@ -46,7 +46,7 @@ pub(crate) fn count_lines(bytes: &[u8]) -> Result<(), ScriptFault>
     Ok(())
 }
 
-/// The sizes of a script, and its other lines.
+// The sizes of a script, and its other lines.
 pub(crate) fn read_size(bytes: &[u8]) -> Result<Opening<'_, Pair>, ScriptFault>
     requires few { length (lines bytes.now) ≤ 1048577 }
     ensures said { IfOk result (λ opening. opened size_of 0 (lines bytes.now) ≡ Ok (opened_as opening)) }

@@ -44,7 +44,7 @@ fn space_from(a: Cut<'_>) -> Option<Group<'_>>
     })
 }
 
-/// The view of up to six half-spaces, by the words behind a word.
+// The view of up to six half-spaces, by the words behind a word.
 pub(crate) fn view_of(words: &[u8]) -> Option<View>
     ensures value { result ≡ spaces_of 6 (words_after words.now) }
 {

@@ -22,13 +22,13 @@ pub enum Step {
     },
 }
 
-/// A viewer's place.
+// A viewer's place.
 #[derive(Clone, Copy)]
 pub(crate) struct Place {
-    /// The column, in samples.
+    // The column, in samples.
     pub(crate) x: i32,
-    /// The row, in samples.
+    // The row, in samples.
     pub(crate) y: i32,
-    /// The altitude.
+    // The altitude.
     pub(crate) a: u32,
 }

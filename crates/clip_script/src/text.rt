@@ -24,7 +24,7 @@ impl fmt::Display for PlaceText {
     }
 }
 
-/// An event of a pass, as a script and a log write it.
+// An event of a pass, as a script and a log write it.
 #[derive(Drop)]
 pub(crate) struct EventText {
     pub(crate) pass: u8,
@@ -96,7 +96,7 @@ fn idle_text(event: Event) -> &'static str
     }
 }
 
-/// The answer of an event, as a log writes it.
+// The answer of an event, as a log writes it.
 #[derive(Drop)]
 pub(crate) struct AnswerText {
     pub(crate) event: Event,

@@ -69,8 +69,8 @@ fn tell<K: Sink>(alloc: Global, triangles: u32, out: &mut K) -> Result<(), Halt>
     }
 }
 
-/// Runs a `check`. `Ok` is the status: 0 where the mesh is watertight, and 2 where it isn't or the file is refused, and
-/// the line of that is written.
+// Runs a `check`. `Ok` is the status: 0 where the mesh is watertight, and 2 where it isn't or the file is refused, and
+// the line of that is written.
 pub(crate) fn run_check<S: Shelf, K: Sink>(
     alloc: Global,
     check: &CheckWords<'_>,

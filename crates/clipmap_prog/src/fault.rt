@@ -12,45 +12,45 @@ use std::alloc::{AllocError, Global};
 use store_model::StoreFault;
 use terrain_lines::store_fault_line;
 
-/// Why a file can't be had.
+// Why a file can't be had.
 #[derive(Clone, Copy)]
 pub(crate) enum FileFault {
-    /// There is no file of that name.
+    // There is no file of that name.
     Absent,
-    /// The file is longer than the limit.
+    // The file is longer than the limit.
     TooLong {
-        /// How many bytes it has, or as many as were read before it was known to be too long.
+        // How many bytes it has, or as many as were read before it was known to be too long.
         length: u64,
-        /// The most bytes that it may have.
+        // The most bytes that it may have.
         limit: u64,
     },
 }
 
-/// Why a command is refused.
+// Why a command is refused.
 #[derive(Clone, Copy)]
 pub(crate) enum Fault<'a> {
-    /// The words are no command.
+    // The words are no command.
     Words,
-    /// The word is no name of an HGT tile.
+    // The word is no name of an HGT tile.
     BadName(&'a str),
-    /// The file of that name can't be had.
+    // The file of that name can't be had.
     File(&'a str, FileFault),
-    /// The file of that name is no tile.
+    // The file of that name is no tile.
     Tile(&'a str, TileFault),
-    /// The tiles make no terrain together.
+    // The tiles make no terrain together.
     Mosaic(MosaicFault),
-    /// The file is no store.
+    // The file is no store.
     Store(StoreFault),
-    /// The store has another number of levels than was asked for.
+    // The store has another number of levels than was asked for.
     LevelsDiffer {
-        /// How many levels it has.
+        // How many levels it has.
         stored: u8,
-        /// How many were asked for.
+        // How many were asked for.
         asked: u8,
     },
-    /// The mesh of the file isn't watertight, or the file is no frame.
+    // The mesh of the file isn't watertight, or the file is no frame.
     Mesh(Verdict),
-    /// The file is no script.
+    // The file is no script.
     Script(ScriptFault),
 }
 
@@ -105,7 +105,7 @@ fn script_line(alloc: Global, fault: ScriptFault) -> Result<String, AllocError>
     }
 }
 
-/// The line that tells a user of the fault.
+// The line that tells a user of the fault.
 pub(crate) fn fault_line(alloc: Global, fault: Fault<'_>) -> Result<String, AllocError>
     ensures line { IfOk result (λ line. string_bytes line ≡ cause_line (cause_of fault.entry)) }
 {

@@ -43,8 +43,8 @@ fn draw<R: Threads + Sync, S: Shelf, K: Sink>(
     ended_by(run_course(rt, alloc, store, &course, name, shelf, out))
 }
 
-/// Runs a `frame`. `Ok` is the status: 0 where it is done, and 2 where it is refused and the line of its
-/// fault is written.
+// Runs a `frame`. `Ok` is the status: 0 where it is done, and 2 where it is refused and the line of its
+// fault is written.
 pub(crate) fn run_frame<R: Threads + Sync, S: Shelf, K: Sink>(
     rt: &R,
     alloc: Global,

@@ -20,12 +20,12 @@ use std::alloc::Global;
 use store_model::StoreFault;
 use terrain_store::{Store, pack, read_store};
 
-/// The inputs of a run, read.
+// The inputs of a run, read.
 #[derive(Drop)]
 pub(crate) enum Ground {
-    /// Tiles, put together.
+    // Tiles, put together.
     Tiles(Inputs),
-    /// A store.
+    // A store.
     Store(Store),
 }
 
@@ -121,7 +121,7 @@ fn levelled<'a>(store: Store, asked: u8) -> Result<Store, Stop<'a>>
     Ok(store)
 }
 
-/// The inputs of a run with so many levels, as a store: tiles are packed, and a store has to have as many.
+// The inputs of a run with so many levels, as a store: tiles are packed, and a store has to have as many.
 #[tactic(auto, unfolding(crate::specs::Lands::land_reading))]
 pub(crate) fn read_land<'a, S: Shelf>(
     alloc: Global,

@@ -92,8 +92,8 @@ fn tell<K: Sink>(alloc: Global, source: &Source, out: &mut K) -> Result<(), Halt
     }
 }
 
-/// Runs an `info`. `Ok` is the status: 0 where it is done, and 2 where it is refused and the line of its
-/// fault is written.
+// Runs an `info`. `Ok` is the status: 0 where it is done, and 2 where it is refused and the line of its
+// fault is written.
 pub(crate) fn run_info<S: Shelf, K: Sink>(
     alloc: Global,
     info: &InfoWords<'_>,

@@ -10,7 +10,7 @@ use outer_shelf::Sink;
 use run_actions::{Halt, write};
 use std::alloc::Global;
 
-/// Writes the line of a fault, by one call.
+// Writes the line of a fault, by one call.
 pub(crate) fn write_fault<K: Sink>(alloc: Global, out: &mut K, fault: Fault<'_>) -> Result<(), Halt>
     ensures ends { WriteEnds (cause_line (cause_of fault.entry)) result
         (K.told out.old).written (K.told out.new).written }
@@ -24,7 +24,7 @@ pub(crate) fn write_fault<K: Sink>(alloc: Global, out: &mut K, fault: Fault<'_>)
     }
 }
 
-/// The answer of a run that has that status where it was done.
+// The answer of a run that has that status where it was done.
 pub(crate) fn ended(status: u8, run: Result<(), Halt>) -> Result<u8, Halt>
     ensures value { result ≡ with_status status run }
 {

@@ -89,8 +89,8 @@ fn pack_by<S: Shelf, K: Sink>(
     write_store(shelf, out, name, bytes.as_slice(), line.as_str())
 }
 
-/// Runs a `pack`. `Ok` is the status: 0 where it is done, and 2 where it is refused and the line of its
-/// fault is written.
+// Runs a `pack`. `Ok` is the status: 0 where it is done, and 2 where it is refused and the line of its
+// fault is written.
 pub(crate) fn run_pack<S: Shelf, K: Sink>(
     alloc: Global,
     words: &PackWords<'_>,
@@ -113,8 +113,8 @@ pub(crate) fn run_pack<S: Shelf, K: Sink>(
     }
 }
 
-/// Runs a `packq`. `Ok` is the status: 0 where it is done, and 2 where it is refused and the line of its
-/// fault is written.
+// Runs a `packq`. `Ok` is the status: 0 where it is done, and 2 where it is refused and the line of its
+// fault is written.
 pub(crate) fn run_pack_by<S: Shelf, K: Sink>(
     alloc: Global,
     words: &PackByWords<'_>,

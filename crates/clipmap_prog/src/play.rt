@@ -127,8 +127,8 @@ fn play_staged<R: Threads + Sync, S: Shelf, K: Sink>(
     ended_by(run_course(rt, alloc, &staged.store, &course, name, shelf, out))
 }
 
-/// Runs a `play`. `Ok` is the status: 0 where it is done, and 2 where it is refused and the line of its
-/// fault is written.
+// Runs a `play`. `Ok` is the status: 0 where it is done, and 2 where it is refused and the line of its
+// fault is written.
 pub(crate) fn run_play<R: Threads + Sync, S: Shelf, K: Sink>(
     rt: &R,
     alloc: Global,

@@ -3,10 +3,10 @@
 use crate::fault::Fault;
 use run_actions::Halt;
 
-/// Why a reading found nothing.
+// Why a reading found nothing.
 pub(crate) enum Stop<'a> {
-    /// The command is refused.
+    // The command is refused.
     Refused(Fault<'a>),
-    /// The run halts.
+    // The run halts.
     Halted(Halt),
 }

@@ -17,8 +17,8 @@ use run_actions::Halt;
 use std::alloc::Global;
 use std::thread::Threads;
 
-/// Runs a command. `Ok` is the status: 0 where it is done, and 2 where it is refused and the line of its
-/// fault is written.
+// Runs a command. `Ok` is the status: 0 where it is done, and 2 where it is refused and the line of its
+// fault is written.
 pub(crate) fn run<R: Threads + Sync, S: Shelf, K: Sink>(
     rt: &R,
     alloc: Global,

@@ -15,17 +15,17 @@ use height_pyramid::Grid;
 use outer_shelf::Shelf;
 use std::alloc::Global;
 
-/// The inputs of a command, read.
+// The inputs of a command, read.
 #[derive(Drop)]
 pub(crate) enum Source {
-    /// Tiles, put together.
+    // Tiles, put together.
     Tiles(Inputs),
-    /// A store.
+    // A store.
     Store(StoreFile),
 }
 
 impl Source {
-    /// The terrain.
+    // The terrain.
     pub(crate) fn grid(&self) -> &Grid
         ensures value { result.now ≡ terrain_of (source_view self.now) }
     {
@@ -36,7 +36,7 @@ impl Source {
     }
 }
 
-/// The inputs of a command: one store, or tiles.
+// The inputs of a command: one store, or tiles.
 pub(crate) fn read_sources<'a, S: Shelf>(
     alloc: Global,
     shelf: &mut S,

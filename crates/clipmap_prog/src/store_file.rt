@@ -34,7 +34,7 @@ fn judge_store<'a>(alloc: Global, bytes: &[u8]) -> Result<StoreFile, Stop<'a>>
     }
 }
 
-/// The store of the file of that name, by one fetch. The file's bytes are gone once it is read.
+// The store of the file of that name, by one fetch. The file's bytes are gone once it is read.
 pub(crate) fn fetch_store<'a, S: Shelf>(
     alloc: Global,
     shelf: &mut S,

@@ -22,7 +22,7 @@ use std::alloc::{AllocError, Global};
 /// The most bytes that an HGT file may have: a square of 3601 samples a side, two bytes a sample.
 pub const HGT_LIMIT: u64 = 25_934_402;
 
-/// The name of a tile, with the corner that it gives.
+// The name of a tile, with the corner that it gives.
 #[derive(Clone, Copy)]
 pub(crate) struct Named<'a> {
     name: &'a str,
@@ -206,7 +206,7 @@ fn read_named<'a, S: Shelf>(
     }
 }
 
-/// Tiles by their names. All names are judged before any file is fetched.
+// Tiles by their names. All names are judged before any file is fetched.
 pub(crate) fn read_tiles<'a, S: Shelf>(
     alloc: Global,
     shelf: &mut S,

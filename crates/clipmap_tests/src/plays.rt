@@ -14,7 +14,7 @@ const STORE: [u8; 33] = [
     0xff, 0xff, 0xff, 0xfc, 0xea, 0x60, 0x00,
 ];
 
-/// What a play left: its status, its log, and the first two frames.
+// What a play left: its status, its log, and the first two frames.
 #[derive(Drop)]
 pub(crate) struct Played {
     pub(crate) status: u8,
@@ -22,20 +22,20 @@ pub(crate) struct Played {
     pub(crate) frames: [Option<Vec<u8>>; 2],
 }
 
-/// The calls that fail in a run.
+// The calls that fail in a run.
 #[derive(Clone, Copy)]
 pub(crate) struct Failing<'a> {
     pub(crate) shelf: &'a [u64],
     pub(crate) sink: &'a [u64],
 }
 
-/// No call fails.
+// No call fails.
 pub(crate) const NONE: Failing<'static> = Failing {
     shelf: &[],
     sink: &[],
 };
 
-/// Runs the words over these files.
+// Runs the words over these files.
 pub(crate) fn ran<R: Threads + Sync + AllocGlobal>(
     rt: &R,
     words: &[&str],

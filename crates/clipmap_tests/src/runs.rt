@@ -4,13 +4,13 @@ use outer_shelf::{MemoryShelf, MemorySink, NoMemory, are_names_distinct};
 use std::alloc::{AllocError, Global};
 use std::thread::Threads;
 
-/// The 3 × 3 tile of the heights 1 to 9.
+// The 3 × 3 tile of the heights 1 to 9.
 pub(crate) const NINE: [u8; 18] = [0, 1, 0, 2, 0, 3, 0, 4, 0, 5, 0, 6, 0, 7, 0, 8, 0, 9];
 
-/// The name of a tile.
+// The name of a tile.
 pub(crate) const TILE: &str = "N00E000.hgt";
 
-/// Words as a command line has them.
+// Words as a command line has them.
 pub(crate) fn owned(alloc: Global, words: &[&str]) -> Result<Vec<String>, AllocError> {
     let mut all = Vec::new(alloc);
     for word in words {
@@ -19,7 +19,7 @@ pub(crate) fn owned(alloc: Global, words: &[&str]) -> Result<Vec<String>, AllocE
     Ok(all)
 }
 
-/// A shelf of files with these names and bytes, whose calls of these numbers fail.
+// A shelf of files with these names and bytes, whose calls of these numbers fail.
 pub(crate) fn shelf_of(
     alloc: Global,
     table: &[(&str, &[u8])],
@@ -41,7 +41,7 @@ pub(crate) fn shelf_of(
     MemoryShelf::new(alloc, files, Vec::from_slice(alloc, failing)?)
 }
 
-/// What a run left: its status, what it wrote, and the file `out.obj`.
+// What a run left: its status, what it wrote, and the file `out.obj`.
 #[derive(Drop)]
 pub(crate) struct Aftermath {
     pub(crate) status: u8,
@@ -49,7 +49,7 @@ pub(crate) struct Aftermath {
     pub(crate) file: Option<Vec<u8>>,
 }
 
-/// Runs the words over a shelf with one tile, whose calls of these numbers fail, and a sink whose writes of these fail.
+// Runs the words over a shelf with one tile, whose calls of these numbers fail, and a sink whose writes of these fail.
 pub(crate) fn ran<R: Threads + Sync + AllocGlobal>(
     rt: &R,
     words: &[&str],
@@ -60,7 +60,7 @@ pub(crate) fn ran<R: Threads + Sync + AllocGlobal>(
     ran_over(rt, words, &[(TILE, bytes)], shelf_failing, sink_failing)
 }
 
-/// The same over a shelf with these files.
+// The same over a shelf with these files.
 pub(crate) fn ran_over<R: Threads + Sync + AllocGlobal>(
     rt: &R,
     words: &[&str],
@@ -85,10 +85,10 @@ pub(crate) fn ran_over<R: Threads + Sync + AllocGlobal>(
     })
 }
 
-/// The line of a text of that number, counted from 0.
+// The line of a text of that number, counted from 0.
 pub(crate) fn line(text: &[u8], number: usize) -> &[u8] {
     text.split(|byte| *byte == b'\n').nth(number).unwrap_or(b"")
 }
 
-/// The words of the first frame.
+// The words of the first frame.
 pub(crate) const FIRST: [&str; 7] = ["frame", "4", "1", "1", "1", "out.obj", TILE];

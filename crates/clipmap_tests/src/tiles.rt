@@ -12,7 +12,7 @@ fn flat(height: u8) -> [u8; 18] {
     bytes
 }
 
-/// The bytes of a tile of side 1201 at height 0.
+// The bytes of a tile of side 1201 at height 0.
 pub(crate) fn sea(alloc: Global) -> Result<Vec<u8>, AllocError> {
     let mut bytes = Vec::with_capacity(alloc, 2_884_802)?;
     for _ in 0..2_884_802u32 {

@@ -3,13 +3,13 @@ ghost use Rattle.std.specs.Prelude.{◌<◌};
 
 use std::alloc::{AllocError, Global};
 
-/// The next number of a generator.
+// The next number of a generator.
 pub(crate) fn next(seed: u64) -> u64 {
     seed.wrapping_mul(6364136223846793005)
         .wrapping_add(1442695040888963407)
 }
 
-/// A number below n, of a seed.
+// A number below n, of a seed.
 pub(crate) fn below(seed: u64, n: u32) -> u32
     requires { 0 < n }
     ensures { result < n }
@@ -29,7 +29,7 @@ fn byte_of(seed: u64, typical: bool) -> u8 {
     }
 }
 
-/// A copy of the bytes, with one to four of them replaced by others.
+// A copy of the bytes, with one to four of them replaced by others.
 pub(crate) fn changed(
     alloc: Global,
     bytes: &[u8],

@@ -4,13 +4,13 @@ use outer_shelf::{MemoryShelf, MemorySink, NoMemory, are_names_distinct};
 use std::alloc::{AllocError, Global};
 use std::thread::Threads;
 
-/// The name of a tile.
+// The name of a tile.
 pub(crate) const TILE: &str = "N00E000.hgt";
 
-/// The 3 × 3 tile of the heights 1 to 9.
+// The 3 × 3 tile of the heights 1 to 9.
 pub(crate) const NINE: [u8; 18] = [0, 1, 0, 2, 0, 3, 0, 4, 0, 5, 0, 6, 0, 7, 0, 8, 0, 9];
 
-/// The exact store of 3 × 3 samples that are 0, but for 30000 in the middle.
+// The exact store of 3 × 3 samples that are 0, but for 30000 in the middle.
 pub(crate) const STORE: [u8; 33] = [
     0x47, 0x43, 0x54, 0x31, 0, 0, 0, 3, 0, 0, 0, 3, 2, 0, 8, 0, 0, 0, 0, 0, 0, 0, 0, 0, 8, 0x03,
     0xff, 0xff, 0xff, 0xfc, 0xea, 0x60, 0x00,
@@ -25,7 +25,7 @@ fn owned(alloc: Global, words: &[&str]) -> Result<Vec<String>, AllocError> {
     Ok(all)
 }
 
-/// A shelf of files with these names and bytes, whose calls of these numbers fail.
+// A shelf of files with these names and bytes, whose calls of these numbers fail.
 pub(crate) fn shelf_of(
     alloc: Global,
     table: &[(&str, &[u8])],
@@ -47,7 +47,7 @@ pub(crate) fn shelf_of(
     MemoryShelf::new(alloc, files, Vec::from_slice(alloc, failing)?)
 }
 
-/// What a run left: its status, the shelf, and the sink.
+// What a run left: its status, the shelf, and the sink.
 #[derive(Drop)]
 pub(crate) struct Left {
     pub(crate) status: u8,
@@ -56,18 +56,18 @@ pub(crate) struct Left {
 }
 
 impl Left {
-    /// The bytes of the file `o`, under which the runs here put, or nothing.
+    // The bytes of the file `o`, under which the runs here put, or nothing.
     pub(crate) fn out(&self) -> &[u8] {
         self.shelf.file("o").unwrap_or(b"")
     }
 
-    /// Whether the command was refused by one line and nothing else: there is no file `o`.
+    // Whether the command was refused by one line and nothing else: there is no file `o`.
     pub(crate) fn is_refused(&self, line: &[u8]) -> bool {
         self.status == 2 && self.sink.bytes() == line && self.shelf.file("o").is_none()
     }
 }
 
-/// Runs the words over a shelf with these files.
+// Runs the words over a shelf with these files.
 pub(crate) fn run<R: Threads + Sync + AllocGlobal>(
     rt: &R,
     words: &[&str],
@@ -76,7 +76,7 @@ pub(crate) fn run<R: Threads + Sync + AllocGlobal>(
     run_failing(rt, words, files, &[], &[])
 }
 
-/// The same, where calls of the shelf and of the sink with these numbers fail.
+// The same, where calls of the shelf and of the sink with these numbers fail.
 pub(crate) fn run_failing<R: Threads + Sync + AllocGlobal>(
     rt: &R,
     words: &[&str],
@@ -96,7 +96,7 @@ pub(crate) fn run_failing<R: Threads + Sync + AllocGlobal>(
     })
 }
 
-/// How many lines a text has that each end with a line feed.
+// How many lines a text has that each end with a line feed.
 pub(crate) fn lines(text: &[u8]) -> usize {
     text.iter().filter(|byte| **byte == b'\n').count()
 }

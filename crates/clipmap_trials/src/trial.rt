@@ -4,11 +4,11 @@ use std::alloc::{AllocError, Global};
 use std::test::Fail;
 use std::thread::Threads;
 
-/// The name of a file that is put, or an empty one for none, and a line that is written then.
+// The name of a file that is put, or an empty one for none, and a line that is written then.
 pub(crate) type Act<'a> = (&'a str, &'a str);
 
-/// A run to be tried: its words, its files, how often it fetches, its status where no call fails, and what it then
-/// does.
+// A run to be tried: its words, its files, how often it fetches, its status where no call fails, and what it then
+// does.
 #[derive(Drop)]
 pub(crate) struct Trial<'a> {
     pub(crate) words: &'a [&'a str],
@@ -18,7 +18,7 @@ pub(crate) struct Trial<'a> {
     pub(crate) acts: &'a [Act<'a>],
 }
 
-/// The names under which runs put files, where OUT is `o`.
+// The names under which runs put files, where OUT is `o`.
 pub(crate) const OUTS: [&str; 7] = [
     "o", "o-0.obj", "o-1.obj", "o-2.obj", "o-3.obj", "o-4.obj", "o-5.obj",
 ];
@@ -114,8 +114,8 @@ fn fail_sink<R: Threads + Sync + AllocGlobal>(
     Ok(passed)
 }
 
-/// Tries a run with each of its calls failing in turn. Without a failing call, and where only the calls behind its own
-/// would fail, all of it stands.
+// Tries a run with each of its calls failing in turn. Without a failing call, and where only the calls behind its own
+// would fail, all of it stands.
 pub(crate) fn tried<R: Threads + Sync + AllocGlobal>(
     rt: &R,
     trial: &Trial<'_>,
@@ -138,7 +138,7 @@ pub(crate) fn tried<R: Threads + Sync + AllocGlobal>(
     Ok(is_done && is_later_done && shelf && sink)
 }
 
-/// The words of a line.
+// The words of a line.
 pub(crate) fn words_of<'a>(alloc: Global, line: &'a str) -> Result<Vec<&'a str>, AllocError> {
     let mut words = Vec::new(alloc);
     for word in line.split(' ') {

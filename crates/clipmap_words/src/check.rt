@@ -12,7 +12,7 @@ pub struct CheckWords<'a> {
     pub file: &'a str,
 }
 
-/// The words after `check`, read. `None` exactly where they are no one name.
+// The words after `check`, read. `None` exactly where they are no one name.
 #[tactic(auto, unfolding(crate::specs::Check::check_of))]
 pub(crate) fn read_check<'a>(words: &'a [String]) -> Option<CheckWords<'a>>
     ensures value { option_map check_view result ≡ check_of (map string_bytes words.now) }

@@ -24,7 +24,7 @@ pub struct FrameWords<'a> {
     pub inputs: &'a [String],
 }
 
-/// The words after `frame`, read. `None` exactly where they aren't well spelled and in range.
+// The words after `frame`, read. `None` exactly where they aren't well spelled and in range.
 #[tactic(auto, unfolding(crate::specs::Frame::frame_of))]
 pub(crate) fn read_frame<'a>(words: &'a [String]) -> Option<FrameWords<'a>>
     ensures value { option_map frame_view result ≡ frame_of (map string_bytes words.now) }

@@ -12,7 +12,7 @@ pub struct InfoWords<'a> {
     pub inputs: &'a [String],
 }
 
-/// The words after `info`, read. `None` exactly where they are no inputs.
+// The words after `info`, read. `None` exactly where they are no inputs.
 #[tactic(auto, unfolding(crate::specs::Info::info_of))]
 pub(crate) fn read_info<'a>(words: &'a [String]) -> Option<InfoWords<'a>>
     ensures value { option_map info_view result ≡ info_of (map string_bytes words.now) }

@@ -9,7 +9,7 @@ pub const NAME_LIMIT: usize = 200;
 /// The most inputs that a command takes.
 pub const INPUTS_LIMIT: usize = 64;
 
-/// Whether the word is a name: 1 to [`NAME_LIMIT`] bytes without a zero byte.
+// Whether the word is a name: 1 to [`NAME_LIMIT`] bytes without a zero byte.
 pub(crate) fn is_name(word: &str) -> bool
     ensures value { result ≡ is_name word.now }
 {
@@ -34,7 +34,7 @@ pub fn is_store_name(word: &str) -> bool
     tail.eq_ignore_ascii_case(b".gct")
 }
 
-/// Whether the words are inputs: one store, or 1 to [`INPUTS_LIMIT`] names of which none is a store's.
+// Whether the words are inputs: one store, or 1 to [`INPUTS_LIMIT`] names of which none is a store's.
 pub(crate) fn is_inputs(words: &[String]) -> bool
     ensures value { result ≡ is_inputs (map string_bytes words.now) }
 {

@@ -7,7 +7,7 @@ use number_words::whole;
 /// The greatest coordinate of a viewer, in samples of the finest level; the least one is its negative.
 pub const VIEWER_LIMIT: i32 = 4_194_304;
 
-/// A coordinate of a viewer in its one spelling, and `None` at any other word.
+// A coordinate of a viewer in its one spelling, and `None` at any other word.
 pub(crate) fn coordinate(word: &str) -> Option<i32>
     ensures value { result ≡ coordinate_of word.now }
     ensures low { IfSome result (λ number. neg_ℤ (pos 4194304) ≤ℤ number) }

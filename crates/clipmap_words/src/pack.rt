@@ -17,7 +17,7 @@ pub struct PackWords<'a> {
     pub inputs: &'a [String],
 }
 
-/// The words after `pack`, read. `None` exactly where they aren't well spelled and in range.
+// The words after `pack`, read. `None` exactly where they aren't well spelled and in range.
 #[tactic(auto, unfolding(crate::specs::Pack::pack_of))]
 pub(crate) fn read_pack<'a>(words: &'a [String]) -> Option<PackWords<'a>>
     ensures value { option_map pack_view result ≡ pack_of (map string_bytes words.now) }

@@ -32,7 +32,7 @@ fn read_step(word: &str) -> Option<u8>
     Some(step as u8)
 }
 
-/// The words after `packq`, read. `None` exactly where they aren't well spelled and in range.
+// The words after `packq`, read. `None` exactly where they aren't well spelled and in range.
 #[tactic(auto, unfolding(crate::specs::PackBy::pack_by_of))]
 pub(crate) fn read_pack_by<'a>(words: &'a [String]) -> Option<PackByWords<'a>>
     ensures value { option_map pack_by_view result ≡ pack_by_of (map string_bytes words.now) }

@@ -16,7 +16,7 @@ pub struct PlayWords<'a> {
     pub inputs: &'a [String],
 }
 
-/// The words after `play`, read. `None` exactly where they aren't names and inputs.
+// The words after `play`, read. `None` exactly where they aren't names and inputs.
 #[tactic(auto, unfolding(crate::specs::Play::play_of))]
 pub(crate) fn read_play<'a>(words: &'a [String]) -> Option<PlayWords<'a>>
     ensures value { option_map play_view result ≡ play_of (map string_bytes words.now) }

@@ -12,7 +12,7 @@ use active_region::Actives;
 use clip_book::Book;
 use ring_mesh::Heights;
 
-/// The heights of the frame of a pass, whose active regions these are.
+// The heights of the frame of a pass, whose active regions these are.
 #[derive(Drop)]
 pub(crate) struct BookHeights<'a> {
     pub(crate) book: &'a Book,

@@ -16,7 +16,7 @@ use std::marker::{Brand, PhantomData};
 use stitches::close;
 use torus_grid::cells_stand_in_rows;
 
-/// What names a terrain to proofs alone.
+// What names a terrain to proofs alone.
 trait Named {
     ghost terrain: { Terrain };
 }

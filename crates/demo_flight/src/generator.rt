@@ -3,14 +3,14 @@
 ghost use Rattle.std.specs.Prelude.{◌≡◌, ◌<◌, ◌%◌, ◌^◌};
 ghost use Rattle.demo_flight.specs.Generator.{next_state, high_bits};
 
-/// A linear congruential generator of 64 bits, whose draws are the high 31 bits of its states.
+// A linear congruential generator of 64 bits, whose draws are the high 31 bits of its states.
 #[derive(Drop)]
 pub(crate) struct Generator {
     pub(crate) state: u64,
 }
 
 impl Generator {
-    /// The next draw, as one of the numbers below `span`.
+    // The next draw, as one of the numbers below `span`.
     #[tactic(auto, unfolding(crate::specs::Generator::next_state, crate::specs::Generator::high_bits))]
     pub(crate) fn below(&mut self, span: u32) -> u32
         requires span { 0 < span }

@@ -9,7 +9,7 @@ use crate::generator::Generator;
 use crate::lattice::{between, height_at};
 use std::alloc::{AllocError, Global};
 
-/// The number of columns and of rows of the terrain.
+// The number of columns and of rows of the terrain.
 pub(crate) const SIDE: u32 = 1201;
 
 // The lattice's next column or row, and of the last one itself.

@@ -65,7 +65,7 @@ fn is_odd(z: i32) -> bool
     z.rem_euclid(2) == 1
 }
 
-/// A sixteenth of a weighted sum, rounded once to the nearest whole number, halves up.
+// A sixteenth of a weighted sum, rounded once to the nearest whole number, halves up.
 #[tactic(auto, unfolding(clip_regions::specs::FloorDivision::floor_div))]
 pub(crate) fn rounded_over_16(sum: i32) -> i32
     requires { IsAtMost 655360 sum }
@@ -75,7 +75,7 @@ pub(crate) fn rounded_over_16(sum: i32) -> i32
     (sum + 8).div_euclid(16)
 }
 
-/// One part in 256 of a sum of sixteen, rounded once to the nearest whole number, halves up.
+// One part in 256 of a sum of sixteen, rounded once to the nearest whole number, halves up.
 #[tactic(auto, unfolding(clip_regions::specs::FloorDivision::floor_div))]
 pub(crate) fn rounded_over_256(sum: i32) -> i32
     requires { IsAtMost 13107200 sum }

@@ -25,7 +25,7 @@ pub fn code_by(patch: &Patch, i: i32, j: i32, height: i16, step: u8) -> i32
     steps_in(residual(patch, i, j, height), step)
 }
 
-/// How many steps a distance has, to the nearest whole number.
+// How many steps a distance has, to the nearest whole number.
 #[inline]
 pub(crate) fn steps_in(distance: i32, step: u8) -> i32
     requires distance { IsAtMost 100000 distance }
@@ -52,7 +52,7 @@ pub fn value_by(patch: &Patch, i: i32, j: i32, code: i32, step: u8) -> i32
     predict(patch, i, j) + steps_of(code, step)
 }
 
-/// So many steps, in metres.
+// So many steps, in metres.
 pub(crate) fn steps_of(code: i32, step: u8) -> i32
     requires low { neg_ℤ (pos (2 ^ 17)) ≤ℤ code }
     requires high { code <ℤ pos (2 ^ 17) }

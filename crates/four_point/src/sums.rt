@@ -6,7 +6,7 @@ ghost use Rattle.four_point.specs.Patches.{patch_height, IsCovered, IsAtMost};
 
 use crate::patch::Patch;
 
-/// The height of a patch at a coarser cell that it covers.
+// The height of a patch at a coarser cell that it covers.
 #[tactic(auto, unfolding(crate::specs::Patches::patch_height))]
 pub(crate) fn height_of(patch: &Patch, a: i32, b: i32) -> i32
     requires column { IsCovered patch.now.i0 0 0 a }
@@ -17,7 +17,7 @@ pub(crate) fn height_of(patch: &Patch, a: i32, b: i32) -> i32
     i32::from(patch.h[(b - patch.j0) as usize][(a - patch.i0) as usize])
 }
 
-/// Four values by the weights -1, 9, 9 and -1.
+// Four values by the weights -1, 9, 9 and -1.
 #[tactic(auto, unfolding(crate::specs::Prediction::weighted))]
 pub(crate) fn weighted(before: i32, near: i32, far: i32, beyond: i32) -> i32
     requires before { IsAtMost 655360 before }
@@ -31,7 +31,7 @@ pub(crate) fn weighted(before: i32, near: i32, far: i32, beyond: i32) -> i32
     9 * (near + far) - (before + beyond)
 }
 
-/// The weighted sum along row `b`, at columns `a` - 1 to `a` + 2.
+// The weighted sum along row `b`, at columns `a` - 1 to `a` + 2.
 #[tactic(auto, unfolding(crate::specs::Prediction::row_sum))]
 pub(crate) fn row_sum(patch: &Patch, a: i32, b: i32) -> i32
     requires column { IsCovered patch.now.i0 1 2 a }
@@ -47,7 +47,7 @@ pub(crate) fn row_sum(patch: &Patch, a: i32, b: i32) -> i32
     )
 }
 
-/// The weighted sum along column `a`, at rows `b` - 1 to `b` + 2.
+// The weighted sum along column `a`, at rows `b` - 1 to `b` + 2.
 #[tactic(auto, unfolding(crate::specs::Prediction::column_sum))]
 pub(crate) fn column_sum(patch: &Patch, a: i32, b: i32) -> i32
     requires column { IsCovered patch.now.i0 0 0 a }
@@ -63,7 +63,7 @@ pub(crate) fn column_sum(patch: &Patch, a: i32, b: i32) -> i32
     )
 }
 
-/// The sum of the sixteen heights round a place, each by the product of its two weights.
+// The sum of the sixteen heights round a place, each by the product of its two weights.
 #[tactic(auto, unfolding(crate::specs::Prediction::square_sum))]
 pub(crate) fn square_sum(patch: &Patch, a: i32, b: i32) -> i32
     requires column { IsCovered patch.now.i0 1 2 a }

@@ -27,7 +27,7 @@ pub type GateTable = Table<Option<Desk>, View, Key, Gate, Global>;
 /// The seat of a pass.
 pub type Seat = atomic_table::Seat<Option<Desk>, View>;
 
-/// The words: the ticket to draw next, the ticket that is served, and the number of entries.
+// The words: the ticket to draw next, the ticket that is served, and the number of entries.
 const TICKET: usize = 0;
 
 const SERVING: usize = 1;

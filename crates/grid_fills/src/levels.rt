@@ -5,7 +5,7 @@ ghost use Rattle.terrain_model.specs.Terrain.{level_height};
 
 use height_pyramid::Grid;
 
-/// The height of the cell in column `i` and row `j` of a level, 0 to 11, in metres: 0 outside the grid.
+// The height of the cell in column `i` and row `j` of a level, 0 to 11, in metres: 0 outside the grid.
 pub(crate) fn height_of(grid: &Grid, level: u8, i: i32, j: i32) -> i16
     requires { level ≤ 11 }
     ensures { result ≡ level_height grid.now level i j }

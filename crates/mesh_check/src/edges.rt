@@ -6,7 +6,7 @@ ghost use Rattle.mesh_check.specs.Keys.{AreSmall, edge_key, edge_keys, pair_key,
 
 use std::alloc::{AllocError, Global};
 
-/// How many places there are room for in the number of a pair.
+// How many places there are room for in the number of a pair.
 pub(crate) const PLACES: u64 = 1 << 32;
 
 // The number of a pair of places.
@@ -58,7 +58,7 @@ fn edges_of(alloc: Global, triangles: &[[u32; 3]]) -> Result<Vec<u64>, AllocErro
     Ok(keys)
 }
 
-/// The edges of some triangles in ascending order, so that an edge stands beside the same edge the other way.
+// The edges of some triangles in ascending order, so that an edge stands beside the same edge the other way.
 pub(crate) fn sorted_edges(alloc: Global, triangles: &[[u32; 3]]) -> Result<Vec<u64>, AllocError>
     requires few { length triangles.now ≤ 2 ^ 28 }
     requires places { All AreSmall triangles.now }

@@ -136,7 +136,7 @@ fn is_tilted_face(vertices: &[Vertex], triangle: &[u32; 3]) -> bool
     )
 }
 
-/// The place of the first tilted triangle, or the number of triangles.
+// The place of the first tilted triangle, or the number of triangles.
 pub(crate) fn first_tilted(vertices: &[Vertex], triangles: &[[u32; 3]]) -> usize
     requires near { All IsNear vertices.now }
     requires faces { All (IsFace (length vertices.now)) triangles.now }

@@ -11,18 +11,18 @@ use crate::edges::PLACES;
 use clip_regions::Region;
 use mesh_model::Vertex;
 
-/// How often an edge stands at the front of sorted edges.
+// How often an edge stands at the front of sorted edges.
 #[derive(Clone, Copy)]
 pub(crate) struct Run {
-    /// Its lesser place times 2^32, and its greater place.
+    // Its lesser place times 2^32, and its greater place.
     pub(crate) pair: u64,
-    /// How often it goes to the greater place.
+    // How often it goes to the greater place.
     pub(crate) there: u32,
-    /// How often it goes back.
+    // How often it goes back.
     pub(crate) back: u32,
 }
 
-/// The edge that stands first among sorted ones.
+// The edge that stands first among sorted ones.
 pub(crate) fn first_run(keys: &[u64]) -> Run
     requires some { 0 < length keys.now }
     requires few { length keys.now < 2 ^ 32 }
@@ -127,7 +127,7 @@ fn is_closed_by(there: u32, back: u32, border: bool) -> bool
     }
 }
 
-/// What edges are judged by: the vertices between which they run, and the region whose sides are the border.
+// What edges are judged by: the vertices between which they run, and the region whose sides are the border.
 #[derive(Clone, Copy)]
 pub(crate) struct Places<'a> {
     pub(crate) border: Region,
@@ -148,7 +148,7 @@ fn is_closed(places: Places<'_>, run: Run) -> bool
     is_closed_by(run.there, run.back, is_on_side(&places.border, p, q))
 }
 
-/// The first edge among sorted ones that isn't closed.
+// The first edge among sorted ones that isn't closed.
 pub(crate) fn first_open(places: Places<'_>, keys: &[u64]) -> Option<Run>
     requires few { length keys.now < 2 ^ 32 }
     requires sorted { IsNonDecreasing keys.now }

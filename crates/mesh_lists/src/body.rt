@@ -95,7 +95,7 @@ impl Grammar<[u32; 3]> for TriangleLine {
     }
 }
 
-/// The lists of the text behind a head, or the first bad line.
+// The lists of the text behind a head, or the first bad line.
 pub(crate) fn read_body(alloc: Global, head: Head<'_>) -> Result<TextLists, ListsFault>
     requires small { length head.text.now + head.lines ≤ 2 ^ 28 }
     ensures lists { let whole = lists_behind head.entry.lines head.entry.border head.entry.text.now in

@@ -6,12 +6,12 @@ ghost use Rattle.mesh_lists.specs.Lines.{cut_line, parts_after, parts_at, whole_
 
 use memchr::memchr;
 
-/// The front of a text, and what is left of it.
+// The front of a text, and what is left of it.
 #[derive(Clone, Copy)]
 pub(crate) struct Cut<'a> {
-    /// A line, or a part of one.
+    // A line, or a part of one.
     pub(crate) front: &'a [u8],
-    /// The text behind it.
+    // The text behind it.
     pub(crate) rest: &'a [u8],
 }
 
@@ -28,7 +28,7 @@ fn place_of(text: &[u8], byte: u8) -> usize
     text.len()
 }
 
-/// The first line of a text, where it has a line feed, and the text behind that.
+// The first line of a text, where it has a line feed, and the text behind that.
 pub(crate) fn next_line(text: &[u8]) -> Option<Cut<'_>>
     ensures lines { MatchOption result (whole_lines text.now ≡ []) (λ cut. whole_lines text.now
         ≡ cut.front.now ∷ whole_lines cut.rest.now) }
@@ -44,7 +44,7 @@ pub(crate) fn next_line(text: &[u8]) -> Option<Cut<'_>>
     }
 }
 
-/// The part before the first of these bytes, and what stands behind it, with the byte.
+// The part before the first of these bytes, and what stands behind it, with the byte.
 pub(crate) fn first_part(text: &[u8], byte: u8) -> Cut<'_>
     ensures value { parts_at byte text.now ≡ result.front.now ∷ parts_after byte result.rest.now }
 {
@@ -55,7 +55,7 @@ pub(crate) fn first_part(text: &[u8], byte: u8) -> Cut<'_>
     }
 }
 
-/// The next part behind a part, where there is one.
+// The next part behind a part, where there is one.
 pub(crate) fn next_part(rest: &[u8], byte: u8) -> Option<Cut<'_>>
     ensures value { MatchOption result (parts_after byte rest.now ≡ []) (λ cut. parts_after byte rest.now
         ≡ cut.front.now ∷ parts_after byte cut.rest.now) }

@@ -382,14 +382,14 @@ fn covered(regions: &[Region]) -> Option<Region>
     scaled(regions[coarsest], spacing(coarsest as u8))
 }
 
-/// What the head of a text tells, and the text behind it.
+// What the head of a text tells, and the text behind it.
 #[derive(Clone, Copy)]
 pub(crate) struct Head<'a> {
-    /// How many lines the head has.
+    // How many lines the head has.
     pub(crate) lines: u32,
-    /// What the last level covers, by positions.
+    // What the last level covers, by positions.
     pub(crate) border: Region,
-    /// The text behind the head.
+    // The text behind the head.
     pub(crate) text: &'a [u8],
 }
 
@@ -416,7 +416,7 @@ fn head_behind(count: u32, border: Region, text: &[u8]) -> Head<'_>
     }
 }
 
-/// The head of a text, or its first bad line.
+// The head of a text, or its first bad line.
 pub(crate) fn read_head(alloc: Global, text: &[u8]) -> Result<Head<'_>, ListsFault>
     requires small { length text.now ≤ 2 ^ 28 }
     ensures lists { MatchResult result

@@ -49,7 +49,7 @@ fn size_of(word: &[u8]) -> Option<u32>
     }
 }
 
-/// A height in thirty-seconds of a metre.
+// A height in thirty-seconds of a metre.
 #[tactic(auto, unfolding(crate::specs::Says::height_of))]
 pub(crate) fn height_of(word: &[u8]) -> Option<i32>
     ensures value { result ≡ height_of word.now }

@@ -7,39 +7,39 @@ use crate::cut::next_line;
 use crate::lists::ListsFault;
 use std::alloc::Global;
 
-/// What a line of some kind says.
+// What a line of some kind says.
 pub(crate) trait Grammar<T> {
-    /// What a line says.
+    // What a line says.
     ghost says: { Self → List ℕ → Option T };
 
-    /// What is true of all that lines say.
+    // What is true of all that lines say.
     ghost fits: { Self → T → Type 0 };
 
-    /// What a line without its line feed says, and `None` where it says nothing.
+    // What a line without its line feed says, and `None` where it says nothing.
     fn read(&self, line: &[u8]) -> Option<T>
         ensures value { result ≡ says self.now line.now }
         ensures fits { IfSome result (fits self.now) };
 }
 
-/// What the leading lines say, and the text behind them.
+// What the leading lines say, and the text behind them.
 #[derive(Drop)]
 pub(crate) struct Leading<'a, T> {
-    /// What they say, one after the other.
+    // What they say, one after the other.
     pub(crate) all: Vec<T>,
-    /// The text behind them.
+    // The text behind them.
     pub(crate) text: &'a [u8],
 }
 
-/// What the first line says, and the text behind it.
+// What the first line says, and the text behind it.
 #[derive(Drop)]
 pub(crate) struct Said<'a, T> {
-    /// What it says.
+    // What it says.
     pub(crate) said: T,
-    /// The text behind it.
+    // The text behind it.
     pub(crate) text: &'a [u8],
 }
 
-/// What the first line says, where it says something.
+// What the first line says, where it says something.
 pub(crate) fn next_said<'a, T: Drop, G: Grammar<T>>(
     grammar: &G,
     text: &'a [u8],
@@ -58,7 +58,7 @@ pub(crate) fn next_said<'a, T: Drop, G: Grammar<T>>(
     })
 }
 
-/// Appends what a line says.
+// Appends what a line says.
 pub(crate) fn append<T: Drop>(all: &mut Vec<T>, said: T) -> Result<(), ListsFault>
     ensures ok { OnOk result (all.new.items ≡ all.old.items ++ said ∷ []) }
     ensures err { IfErr result (λ fault. fault ≡ ListsFault.NoMemory) }
@@ -69,7 +69,7 @@ pub(crate) fn append<T: Drop>(all: &mut Vec<T>, said: T) -> Result<(), ListsFaul
     }
 }
 
-/// What the leading lines say, up to the first that says nothing.
+// What the leading lines say, up to the first that says nothing.
 pub(crate) fn read_leading<'a, T: Drop, G: Grammar<T>>(
     alloc: Global,
     grammar: &G,

@@ -53,7 +53,7 @@ fn short_number(word: &[u8]) -> Option<u32>
     Some(number)
 }
 
-/// A number from `low` to `high` in its one spelling. Short words, nearly all there are, take one pass.
+// A number from `low` to `high` in its one spelling. Short words, nearly all there are, take one pass.
 pub(crate) fn natural(word: &[u8], low: u64, high: u64) -> Option<u64>
     ensures value { result ≡ natural_of low high word.now }
     ensures low { IfSome result (λ number. low ≤ number) }
@@ -92,7 +92,7 @@ fn short_whole(word: &[u8]) -> Option<i32>
     }
 }
 
-/// A number with a sign, at most `limit` away from zero, in its one spelling.
+// A number with a sign, at most `limit` away from zero, in its one spelling.
 pub(crate) fn whole(word: &[u8], limit: u32) -> Option<i32>
     requires { limit < 2 ^ 31 }
     ensures value { result ≡ whole_of (neg_ℤ (pos limit)) (pos limit) word.now }

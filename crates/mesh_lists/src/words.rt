@@ -12,14 +12,14 @@ use crate::number::{natural, whole};
 // The greatest coordinate; the least one is its negative.
 const COORDINATE_LIMIT: u32 = 1 << 24;
 
-/// The first word of a line, and what stands behind it, with the space before it.
+// The first word of a line, and what stands behind it, with the space before it.
 pub(crate) fn first_word(line: &[u8]) -> Cut<'_>
     ensures value { words line.now ≡ result.front.now ∷ parts_after 32 result.rest.now }
 {
     first_part(line, b' ')
 }
 
-/// The next word behind a word, where there is one.
+// The next word behind a word, where there is one.
 pub(crate) fn next_word(rest: &[u8]) -> Option<Cut<'_>>
     ensures value { MatchOption result (parts_after 32 rest.now ≡ []) (λ cut. parts_after 32 rest.now
         ≡ cut.front.now ∷ parts_after 32 cut.rest.now) }
@@ -27,7 +27,7 @@ pub(crate) fn next_word(rest: &[u8]) -> Option<Cut<'_>>
     next_part(rest, b' ')
 }
 
-/// What stands behind a word that opens a line.
+// What stands behind a word that opens a line.
 #[tactic(auto, unfolding(crate::specs::Says::behind))]
 pub(crate) fn behind_first<'a>(line: &'a [u8], word: &[u8]) -> Option<&'a [u8]>
     ensures value { option_map (λ rest. parts_after 32 rest.now) result ≡ behind word.now (words line.now) }
@@ -40,7 +40,7 @@ pub(crate) fn behind_first<'a>(line: &'a [u8], word: &[u8]) -> Option<&'a [u8]>
     }
 }
 
-/// What stands behind a word that comes next.
+// What stands behind a word that comes next.
 #[tactic(auto, unfolding(crate::specs::Says::behind))]
 pub(crate) fn behind<'a>(rest: &'a [u8], word: &[u8]) -> Option<&'a [u8]>
     ensures value { option_map (λ rest. parts_after 32 rest.now) result ≡ behind word.now (parts_after 32 rest.now) }
@@ -53,7 +53,7 @@ pub(crate) fn behind<'a>(rest: &'a [u8], word: &[u8]) -> Option<&'a [u8]>
     }
 }
 
-/// The one word, as a number in a range.
+// The one word, as a number in a range.
 #[tactic(auto, unfolding(crate::specs::Says::one_number))]
 pub(crate) fn one_number(rest: &[u8], low: u64, high: u64) -> Option<u64>
     ensures value { result ≡ one_number low high (parts_after 32 rest.now) }
@@ -65,14 +65,14 @@ pub(crate) fn one_number(rest: &[u8], low: u64, high: u64) -> Option<u64>
     }
 }
 
-/// A number of 64 bits.
+// A number of 64 bits.
 pub(crate) fn count_of(word: &[u8]) -> Option<u64>
     ensures value { result ≡ count_of word.now }
 {
     natural(word, 0, u64::MAX)
 }
 
-/// A coordinate, in samples.
+// A coordinate, in samples.
 pub(crate) fn coordinate_of(word: &[u8]) -> Option<i32>
     ensures value { result ≡ coordinate_of word.now }
     ensures low { IfSome result (λ n. neg_ℤ (pos (2 ^ 24)) ≤ℤ n) }
@@ -81,7 +81,7 @@ pub(crate) fn coordinate_of(word: &[u8]) -> Option<i32>
     whole(word, COORDINATE_LIMIT)
 }
 
-/// The number of a vertex of so many, counted from 1.
+// The number of a vertex of so many, counted from 1.
 pub(crate) fn number_of(word: &[u8], count: u32) -> Option<u32>
     ensures value { result ≡ natural_of 1 count word.now }
     ensures low { IfSome result (λ n. 1 ≤ n) }

@@ -7,7 +7,7 @@ ghost use Rattle.terrain_model.specs.Mosaic.{samples_across};
 use hgt_tiles::HgtTile;
 use std::marker::Model;
 
-/// The least rectangle of degrees round a set of tiles, by their corners, and the side of each tile in samples.
+// The least rectangle of degrees round a set of tiles, by their corners, and the side of each tile in samples.
 #[derive(Drop)]
 pub(crate) struct Extent {
     west: i16,
@@ -72,7 +72,7 @@ impl Extent {
         }
     }
 
-    /// The rectangle round a first tile and the rest.
+    // The rectangle round a first tile and the rest.
     pub(crate) fn around(first: &HgtTile, rest: &[HgtTile]) -> Extent
         ensures value { result ≡ bounds_of (map placed (first.now ∷ rest.now)) }
         ensures extent { IsExtent result }
@@ -84,7 +84,7 @@ impl Extent {
         extent
     }
 
-    /// The side of each tile, in samples.
+    // The side of each tile, in samples.
     pub(crate) fn side(&self) -> usize
         ensures value { result ≡ self.now.side }
         ensures extent { IsExtent self.now }
@@ -92,7 +92,7 @@ impl Extent {
         self.side as usize
     }
 
-    /// How many samples a row of the rectangle has.
+    // How many samples a row of the rectangle has.
     #[tactic(auto, unfolding(terrain_model::specs::Mosaic::mosaic_width, terrain_model::specs::Mosaic::samples_across))]
     pub(crate) fn width(&self) -> u64
         ensures value { result ≡ mosaic_width self.now }
@@ -102,7 +102,7 @@ impl Extent {
         samples_across(self.side, self.west, self.east)
     }
 
-    /// How many rows of samples the rectangle has.
+    // How many rows of samples the rectangle has.
     #[tactic(auto, unfolding(terrain_model::specs::Mosaic::mosaic_height, terrain_model::specs::Mosaic::samples_across))]
     pub(crate) fn height(&self) -> u64
         ensures value { result ≡ mosaic_height self.now }
@@ -112,7 +112,7 @@ impl Extent {
         samples_across(self.side, self.south, self.north)
     }
 
-    /// The first column of the rectangle that a tile covers.
+    // The first column of the rectangle that a tile covers.
     #[tactic(auto, unfolding(terrain_model::specs::Mosaic::left_of, hgt_tiles::specs::TileView::placed))]
     pub(crate) fn left_of(&self, tile: &HgtTile) -> usize
         requires { IsPlacedIn self.now tile.now }
@@ -121,7 +121,7 @@ impl Extent {
         degrees_apart(self.west, tile.corner().lon) * (self.side as usize - 1)
     }
 
-    /// The columns that a tile covers lie in the rectangle.
+    // The columns that a tile covers lie in the rectangle.
     pub(crate) fn holds_columns_of(&self, tile: &HgtTile)
         requires { IsPlacedIn self.now tile.now }
         ensures { left_of self.now (placed tile.now) + self.now.side ≤ mosaic_width self.now }
@@ -129,7 +129,7 @@ impl Extent {
         let _side = self.side();
     }
 
-    /// The first row of the rectangle that a tile covers.
+    // The first row of the rectangle that a tile covers.
     #[tactic(auto, unfolding(terrain_model::specs::Mosaic::top_of, hgt_tiles::specs::TileView::placed))]
     pub(crate) fn top_of(&self, tile: &HgtTile) -> usize
         requires { IsPlacedIn self.now tile.now }

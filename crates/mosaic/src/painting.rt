@@ -37,7 +37,7 @@ fn painting_order(tile: &HgtTile, other: &HgtTile) -> Ordering
     }
 }
 
-/// The tiles in the order in which they are painted.
+// The tiles in the order in which they are painted.
 pub(crate) fn sorted_for_painting(mut tiles: Vec<HgtTile>) -> Vec<HgtTile>
     ensures permutation { IsPermutation tiles.items result.items }
     ensures order { IsInOrder result.items }
@@ -83,7 +83,7 @@ fn paint_row(row: &mut [i16], extent: &Extent, tiles: &[HgtTile], y: usize)
     }
 }
 
-/// Paints the grid by all tiles, over zeros: each row whole, the rows from the north.
+// Paints the grid by all tiles, over zeros: each row whole, the rows from the north.
 pub(crate) fn paint(
     alloc: Global,
     extent: &Extent,

@@ -6,7 +6,7 @@ ghost use Rattle.parallel_text.specs.Lines.{lines_text};
 use mesh_model::Vertex;
 use obj_frames::{NoMemory, append_triangles, append_vertices};
 
-/// The lines of some vertices, and then of some triangles.
+// The lines of some vertices, and then of some triangles.
 #[derive(Clone, Copy)]
 pub(crate) struct Lines<'a> {
     pub(crate) vertices: &'a [Vertex],

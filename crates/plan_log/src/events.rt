@@ -19,7 +19,7 @@ fn is_view(step: &Step) -> bool
     }
 }
 
-/// Whether any of these steps asks for a view, which the plan hasn't.
+// Whether any of these steps asks for a view, which the plan hasn't.
 pub(crate) fn ask_view(steps: &[Step]) -> bool
     ensures value { result ≡ list_any is_view steps.now }
 {
@@ -36,7 +36,7 @@ fn event_of(step: &Step) -> Option<PlainAsked>
     }
 }
 
-/// The events among these steps. It fails where memory runs out.
+// The events among these steps. It fails where memory runs out.
 pub(crate) fn events_of(alloc: Global, steps: &[Step]) -> Result<Vec<PlainAsked>, AllocError>
     ensures value { IfOk result (λ events. events.items ≡ filter_map event_of steps.now) }
 {

@@ -9,18 +9,18 @@ use std::alloc::AllocError;
 use std::io;
 use std::io::ErrorKind;
 
-/// Why a play ends before its script does.
+// Why a play ends before its script does.
 #[derive(Clone, Copy, PartialEq, Eq, Debug)]
 pub(crate) enum Halt {
-    /// The line of this number, counted from 1, can't be played: it is a bad line or asks for a view.
+    // The line of this number, counted from 1, can't be played: it is a bad line or asks for a view.
     Line(u64),
-    /// The script has this number of lines, which is too many.
+    // The script has this number of lines, which is too many.
     TooMany(u64),
-    /// A read of the script failed.
+    // A read of the script failed.
     ReadFailed,
-    /// A write of the log failed.
+    // A write of the log failed.
     WriteFailed,
-    /// There was no memory.
+    // There was no memory.
     NoMemory,
 }
 
@@ -32,7 +32,7 @@ fn is_want_of_memory(error: &io::Error) -> bool
 }
 
 impl Halt {
-    /// The cause of a fault of a script.
+    // The cause of a fault of a script.
     pub(crate) fn of_fault(fault: ScriptFault) -> Halt
         ensures value { result ≡ halt_of fault }
     {
@@ -43,7 +43,7 @@ impl Halt {
         }
     }
 
-    /// The cause of an error that a read met.
+    // The cause of an error that a read met.
     pub(crate) fn of_read(error: &io::Error) -> Halt
         ensures cause { IsReadStop result }
         ensures memory { (result ≡ Halt.NoMemory) ↔ IsWantOfMemory error.now }
@@ -55,7 +55,7 @@ impl Halt {
         }
     }
 
-    /// The cause of an error that a write met.
+    // The cause of an error that a write met.
     pub(crate) fn of_write(error: &io::Error) -> Halt
         ensures cause { IsWriteStop result }
         ensures memory { (result ≡ Halt.NoMemory) ↔ IsWantOfMemory error.now }
@@ -67,7 +67,7 @@ impl Halt {
         }
     }
 
-    /// The program's status.
+    // The program's status.
     pub(crate) fn status(self) -> u8
         ensures value { result ≡ status_of self }
     {

@@ -56,7 +56,7 @@ fn play_log(alloc: Global, bytes: &[u8], script: &PlayScript) -> Result<Vec<u8>,
     log_of(alloc, script.k, script.levels, events.as_slice())
 }
 
-/// The log of the script that these bytes are.
+// The log of the script that these bytes are.
 #[tactic(auto, unfolding(crate::specs::Logs::script_log))]
 pub(crate) fn script_log(alloc: Global, bytes: &[u8]) -> Result<Vec<u8>, Halt>
     ensures text { IfOk result (λ text. script_log bytes.now ≡ Ok text.items) }

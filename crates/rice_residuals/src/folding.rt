@@ -1,16 +1,16 @@
 ghost use Rattle.std.specs.Prelude.{◌≡◌, ◌<◌, ◌^◌};
 ghost use Rattle.rice_residuals.specs.Code.{IsResidual, folded_limit, folded};
 
-/// How many ones a code of the long form begins with.
+// How many ones a code of the long form begins with.
 pub(crate) const LONG_ONES: u32 = 32;
 
-/// How many bits the folded residual has behind them.
+// How many bits the folded residual has behind them.
 pub(crate) const NUMBER_BITS: u8 = 18;
 
-/// How many bits a code of the long form has.
+// How many bits a code of the long form has.
 pub(crate) const LONG_LENGTH: u32 = 50;
 
-/// All folded residuals are below this.
+// All folded residuals are below this.
 pub(crate) const FOLDED_LIMIT: u32 = 262_144;
 
 /// The unsigned number for a residual: 2x where x is not negative, else -2x - 1. So 0, -1, 1, -2, 2 become 0, 1, 2, 3

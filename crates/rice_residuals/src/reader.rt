@@ -71,7 +71,7 @@ impl BitReader<'_> {
         (self.register.next * 8) as u32 - self.register.held
     }
 
-    /// The number of bits that the bytes have.
+    // The number of bits that the bytes have.
     #[inline]
     pub(crate) fn end(&self) -> u32
         ensures { result ≡ self.now.place + length self.now.left }
@@ -79,7 +79,7 @@ impl BitReader<'_> {
         (self.bytes.len() * 8) as u32
     }
 
-    /// Takes ones up to a zero, which is taken too, but no more than 32 of them. None where the bits end before.
+    // Takes ones up to a zero, which is taken too, but no more than 32 of them. None where the bits end before.
     #[inline]
     pub(crate) fn take_ones(&mut self) -> Option<u32>
         ensures none { IfNone result (self.old.left ≡ replicate (length self.old.left) true) }

@@ -244,8 +244,8 @@ fn add_ring(
     add_around(faces, vertices, finer, ring, level)
 }
 
-/// The triangles and the parts of all rings of a frame's active regions, between vertices of which the
-/// finest level's come first. The list of triangles has this room.
+// The triangles and the parts of all rings of a frame's active regions, between vertices of which the
+// finest level's come first. The list of triangles has this room.
 pub(crate) fn ring_faces(
     alloc: Global,
     room: usize,

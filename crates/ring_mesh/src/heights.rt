@@ -55,8 +55,8 @@ fn height_by_ends<G: Heights>(
     blended(k, false, active, i, j, own, a, b)
 }
 
-/// The height of the vertex at a cell of a level's active region, in thirty-seconds of a metre. The coarser
-/// heights are asked for only where the height takes something of them.
+// The height of the vertex at a cell of a level's active region, in thirty-seconds of a metre. The coarser
+// heights are asked for only where the height takes something of them.
 pub(crate) fn vertex_height<G: Heights>(
     heights: &G,
     k: u8,

@@ -86,7 +86,7 @@ fn add_row(
     Ok(())
 }
 
-/// Adds the triangles of the squares with these north-west corners, row by row.
+// Adds the triangles of the squares with these north-west corners, row by row.
 pub(crate) fn add_squares(
     triangles: &mut Vec<[u32; 3]>,
     finer: &Ring,

@@ -213,8 +213,8 @@ fn add_ring<G: Heights>(
     Ok(())
 }
 
-/// How many vertices the rings of a frame's active regions list. There are fewer than twice as many triangles,
-/// those of the stitches included.
+// How many vertices the rings of a frame's active regions list. There are fewer than twice as many triangles,
+// those of the stitches included.
 pub(crate) fn vertex_count(actives: &Actives) -> usize
     ensures few { result < 2 ^ 31 }
     ensures active { AreActive actives.now }
@@ -227,7 +227,7 @@ pub(crate) fn vertex_count(actives: &Actives) -> usize
     finer.first as usize + ring_size(&finer) as usize
 }
 
-/// The vertices of all rings of a frame's active regions, the finest level first, in a list with this room.
+// The vertices of all rings of a frame's active regions, the finest level first, in a list with this room.
 pub(crate) fn ring_vertices<G: Heights>(
     alloc: Global,
     room: usize,

@@ -15,7 +15,7 @@ use std::test::Fail;
 use std::thread::Threads;
 use terrain_store::{Store, pack};
 
-/// The store of the heights 1 to 9 in 3 × 3 samples, in so many levels.
+// The store of the heights 1 to 9 in 3 × 3 samples, in so many levels.
 pub(crate) fn nine(alloc: Global, levels: u8) -> Result<Store, Fail>
     requires { IsLevelCount levels }
     ensures { IfOk result (λ store. (land_of store).levels ≡ levels) }
@@ -24,7 +24,7 @@ pub(crate) fn nine(alloc: Global, levels: u8) -> Result<Store, Fail>
     Ok(pack(alloc, &grid, levels)?)
 }
 
-/// The store of 3 × 3 samples that are 0, in so many levels.
+// The store of 3 × 3 samples that are 0, in so many levels.
 pub(crate) fn flat(alloc: Global, levels: u8) -> Result<Store, Fail>
     requires { IsLevelCount levels }
     ensures { IfOk result (λ store. (land_of store).levels ≡ levels) }
@@ -33,7 +33,7 @@ pub(crate) fn flat(alloc: Global, levels: u8) -> Result<Store, Fail>
     Ok(pack(alloc, &grid, levels)?)
 }
 
-/// What a run left: the shelf and the sink.
+// What a run left: the shelf and the sink.
 #[derive(Drop)]
 pub(crate) struct Left {
     shelf: MemoryShelf,
@@ -41,18 +41,18 @@ pub(crate) struct Left {
 }
 
 impl Left {
-    /// The lines that were written.
+    // The lines that were written.
     pub(crate) fn log(&self) -> &[u8] {
         self.sink.bytes()
     }
 
-    /// The bytes of a file, or nothing.
+    // The bytes of a file, or nothing.
     pub(crate) fn file(&self, name: &str) -> &[u8] {
         self.shelf.file(name).unwrap_or(b"")
     }
 }
 
-/// Runs a course, under the name `out`, which must end with status 0.
+// Runs a course, under the name `out`, which must end with status 0.
 pub(crate) fn run<R: Threads + Sync + AllocGlobal, F: Filler + Sync>(
     rt: &R,
     filler: &F,
@@ -70,7 +70,7 @@ pub(crate) fn run<R: Threads + Sync + AllocGlobal, F: Filler + Sync>(
     Ok(Left { shelf, sink })
 }
 
-/// A play script that is read, of so many levels.
+// A play script that is read, of so many levels.
 pub(crate) fn script_of(alloc: Global, text: &[u8], levels: u8) -> Result<PlayScript, Fail>
     ensures { IfOk result (λ script. IsPlayInRange levels (play_view script)) }
 {

@@ -78,7 +78,7 @@ fn add_border(
     add_sides(faces, vertices, ring, level)
 }
 
-/// Adds the stitch parts of each level but the coarsest, from the finest on.
+// Adds the stitch parts of each level but the coarsest, from the finest on.
 pub(crate) fn add_stitches(
     faces: &mut Faces,
     vertices: &[Vertex],

@@ -21,7 +21,7 @@ fn border_stitches(active: Region) -> usize
     (steps_of(&active, Side::North) + steps_of(&active, Side::East)) as usize
 }
 
-/// How many stitches the mesh of these active regions has.
+// How many stitches the mesh of these active regions has.
 pub(crate) fn stitch_count(actives: &Actives) -> usize
     ensures value { result ≡ all_stitch_count actives.now }
 {

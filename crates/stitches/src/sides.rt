@@ -11,16 +11,16 @@ use obj_frames::PartKind;
 use ring_mesh::place_in;
 use std::alloc::AllocError;
 
-/// A side of the border of an active region. The walk goes round the border clockwise as seen from above.
+// A side of the border of an active region. The walk goes round the border clockwise as seen from above.
 #[derive(Clone, Copy, PartialEq, Eq, Debug)]
 pub(crate) enum Side {
-    /// From the west to the east along the first row.
+    // From the west to the east along the first row.
     North,
-    /// From the north to the south along the last column.
+    // From the north to the south along the last column.
     East,
-    /// From the east to the west along the last row.
+    // From the east to the west along the last row.
     South,
-    /// From the south to the north along the first column.
+    // From the south to the north along the first column.
     West,
 }
 
@@ -36,7 +36,7 @@ pub(crate) fn kind_of(side: Side) -> PartKind
     }
 }
 
-/// How many steps the walk along a side has.
+// How many steps the walk along a side has.
 pub(crate) fn steps_of(active: &Region, side: Side) -> u32
     requires near { IsWithin (2 ^ 24) active.now }
     requires some { is_empty active.now ≡ false }
@@ -87,7 +87,7 @@ fn stitch(ring: &Ring, side: Side, s: u32) -> [u32; 3]
     ]
 }
 
-/// Adds the stitches along a side, in the order of the walk.
+// Adds the stitches along a side, in the order of the walk.
 pub(crate) fn add_walk(
     triangles: &mut Vec<[u32; 3]>,
     ring: &Ring,

@@ -14,7 +14,7 @@ fn length_at(bytes: &[u8], at: usize) -> usize
     usize::from(BigEndian::read_u16(&bytes[at..]))
 }
 
-/// The bytes of the block at an offset.
+// The bytes of the block at an offset.
 #[tactic(auto, unfolding(crate::specs::Places::content_at))]
 pub(crate) fn content_at(bytes: &[u8], at: usize) -> &[u8]
     requires { at + 2 + length_at bytes.now at ≤ length bytes.now }
@@ -32,7 +32,7 @@ fn next(bytes: &[u8], at: usize) -> usize
     at + 2 + length_at(bytes, at)
 }
 
-/// The offset behind `count` blocks, of which the first stands at an offset.
+// The offset behind `count` blocks, of which the first stands at an offset.
 pub(crate) fn skip(bytes: &[u8], first: usize, count: u32) -> usize
     requires { AreThere bytes.now first count }
     ensures { result ≡ behind bytes.now first count }

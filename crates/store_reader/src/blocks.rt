@@ -19,7 +19,7 @@ use four_point::{Heights, Patch, patch_around};
 use height_pyramid::Grid;
 use store_model::StoreFault;
 
-/// What a level's blocks are: heights as they are, or words of codes over the heights of the next coarser level.
+// What a level's blocks are: heights as they are, or words of codes over the heights of the next coarser level.
 #[derive(Clone, Copy)]
 pub(crate) enum Source<'a> {
     Plain,
@@ -40,7 +40,7 @@ impl Heights for Coarser<'_> {
     }
 }
 
-/// The bytes of the block whose length stands at an offset, unless they aren't all there.
+// The bytes of the block whose length stands at an offset, unless they aren't all there.
 pub(crate) fn content_at(bytes: &[u8], at: usize) -> Option<&[u8]>
     requires { at ≤ length bytes.now }
     ensures short { IfSome result (λ content. length content.now < 2 ^ 16) }
@@ -131,7 +131,7 @@ fn word_block(
     piece_heights(&block, &patch, place.cells, out)
 }
 
-/// Writes the heights of a block's cells in the terrain, row by row, or answers the block's fault.
+// Writes the heights of a block's cells in the terrain, row by row, or answers the block's fault.
 pub(crate) fn decode(
     place: Place,
     step: u8,

@@ -12,14 +12,14 @@ use height_pyramid::Grid;
 use std::alloc::Global;
 use store_model::StoreFault;
 
-/// A level that was read, and where its blocks end in the bytes.
+// A level that was read, and where its blocks end in the bytes.
 #[derive(Drop)]
 pub(crate) struct Reached {
     pub(crate) grid: Grid,
     pub(crate) at: usize,
 }
 
-/// A level of a store that is being read.
+// A level of a store that is being read.
 #[derive(Clone, Copy)]
 pub(crate) struct Reading<'a> {
     pub(crate) bytes: &'a [u8],
@@ -72,7 +72,7 @@ fn read_blocks(reading: Reading<'_>, start: usize, table: &mut [i16]) -> Result<
     Ok(at)
 }
 
-/// Reads the level whose first block's length stands at an offset.
+// Reads the level whose first block's length stands at an offset.
 pub(crate) fn read_level(
     alloc: Global,
     reading: Reading<'_>,

@@ -8,7 +8,7 @@ ghost use Rattle.store_reader.specs.Places.{IsPlaceOf, IsSoundPlace};
 use crate::header::Header;
 use clip_regions::Region;
 
-/// How many cells of a level, 0 to 11, lie in a side of so many samples.
+// How many cells of a level, 0 to 11, lie in a side of so many samples.
 #[tactic(auto, unfolding(store_model::specs::Sizes::cells_on))]
 pub(crate) fn cells_on(side: u32, level: u8) -> u32
     requires side { 1 ≤ side }
@@ -20,7 +20,7 @@ pub(crate) fn cells_on(side: u32, level: u8) -> u32
     ((side - 1) >> level) + 1
 }
 
-/// How many blocks of eight cells a side of so many cells meets.
+// How many blocks of eight cells a side of so many cells meets.
 #[tactic(auto, unfolding(store_model::specs::Sizes::blocks_on))]
 pub(crate) fn blocks_on(cells: u32) -> u32
     requires { 1 ≤ cells }
@@ -31,13 +31,13 @@ pub(crate) fn blocks_on(cells: u32) -> u32
     (cells - 1) / 8 + 1
 }
 
-/// Where a block stands in its level.
+// Where a block stands in its level.
 #[derive(Clone, Copy)]
 pub(crate) struct Place {
     pub(crate) level: u8,
     pub(crate) bx: u32,
     pub(crate) by: u32,
-    /// The block's cells in the terrain.
+    // The block's cells in the terrain.
     pub(crate) cells: Region,
 }
 
@@ -79,7 +79,7 @@ fn row_in(k: u32, across: u32, down: u32) -> u32
     k / across
 }
 
-/// Block `k` of a level, counted row by row from the north and each row from the west.
+// Block `k` of a level, counted row by row from the north and each row from the west.
 pub(crate) fn place_of(header: Header, level: u8, k: u32) -> Place
     requires header { IsReadable header }
     requires level { level < header.levels }
@@ -104,7 +104,7 @@ pub(crate) fn place_of(header: Header, level: u8, k: u32) -> Place
     }
 }
 
-/// How many blocks a level has.
+// How many blocks a level has.
 pub(crate) fn block_total(header: Header, level: u8) -> u32
     requires header { IsReadable header }
     requires level { level < header.levels }
@@ -115,7 +115,7 @@ pub(crate) fn block_total(header: Header, level: u8) -> u32
     across * down
 }
 
-/// How many cells a level has.
+// How many cells a level has.
 pub(crate) fn cell_total(header: Header, level: u8) -> usize
     requires header { IsReadable header }
     requires level { level < header.levels }

@@ -6,7 +6,7 @@ ghost use Rattle.store_reader.specs.Tables.{IsRowIn, IsKeptBeside, AreRowsIn, Is
 
 use crate::sizes::Place;
 
-/// Columns and rows of a table.
+// Columns and rows of a table.
 #[derive(Clone, Copy)]
 pub(crate) struct Span {
     pub(crate) x0: usize,
@@ -15,7 +15,7 @@ pub(crate) struct Span {
     pub(crate) rows: usize,
 }
 
-/// The columns and rows of a block's cells.
+// The columns and rows of a block's cells.
 #[tactic(auto, unfolding(clip_regions::specs::Regions::columns, clip_regions::specs::Regions::rows))]
 pub(crate) fn span_of(place: Place) -> Span
     requires { IsSoundPlace place }
@@ -44,7 +44,7 @@ fn put_row(table: &mut [i16], at: usize, heights: &[i16], from: usize, count: us
     }
 }
 
-/// Puts heights, row by row, into a span of a table with so many columns.
+// Puts heights, row by row, into a span of a table with so many columns.
 pub(crate) fn put_rows(table: &mut [i16], columns: usize, span: Span, heights: &[i16])
     requires columns { span.x0 + span.width ≤ columns }
     requires rows { (span.y0 + span.rows) * columns ≤ length table.old }

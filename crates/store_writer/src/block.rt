@@ -17,7 +17,7 @@ use four_point::{BlockPredictions, Heights, Patch, patch_around, predict_block};
 use rice_residuals::{NoMemory, Residuals, write_block};
 use std::alloc::Global;
 
-/// Whether a code stands for the cell in column `i` and row `j`: whether one of the two is odd.
+// Whether a code stands for the cell in column `i` and row `j`: whether one of the two is odd.
 #[tactic(auto, unfolding(store_model::specs::Blocks::is_coded, clip_regions::specs::FloorDivision::floor_rem))]
 pub(crate) fn is_coded(i: u32, j: u32) -> bool
     ensures { result ≡ is_coded (pos i) (pos j) }
@@ -25,7 +25,7 @@ pub(crate) fn is_coded(i: u32, j: u32) -> bool
     !(i % 2 == 0 && j % 2 == 0)
 }
 
-/// The code of a cell over the predictions of its block.
+// The code of a cell over the predictions of its block.
 pub(crate) fn code_at<F: Heights>(
     predicted: &BlockPredictions<'_>,
     finer: &F,
@@ -101,7 +101,7 @@ fn codes_of<F: Heights>(
     codes
 }
 
-/// The patch of coarser heights of a block's cells.
+// The patch of coarser heights of a block's cells.
 pub(crate) fn patch_of<C: Heights>(coarser: &C, cells: Cells) -> Patch
     requires { AreCells cells }
     ensures place { IsPatchOf cells result }
@@ -115,7 +115,7 @@ pub(crate) fn patch_of<C: Heights>(coarser: &C, cells: Cells) -> Patch
     )
 }
 
-/// Puts a block's length and the canonical word of its codes over the coarser heights.
+// Puts a block's length and the canonical word of its codes over the coarser heights.
 pub(crate) fn append_word<F: Heights, C: Heights>(
     alloc: Global,
     out: &mut Vec<u8>,
@@ -184,7 +184,7 @@ fn append_rows<F: Heights>(out: &mut Vec<u8>, finer: &F, cells: Cells) -> Result
     Ok(())
 }
 
-/// Puts a block's length and its heights as they are.
+// Puts a block's length and its heights as they are.
 pub(crate) fn append_plain<F: Heights>(
     out: &mut Vec<u8>,
     finer: &F,

@@ -8,7 +8,7 @@ use height_pyramid::Grid;
 use rice_residuals::NoMemory;
 use std::alloc::Global;
 
-/// Puts bytes behind those that are there.
+// Puts bytes behind those that are there.
 pub(crate) fn append(out: &mut Vec<u8>, bytes: &[u8]) -> Result<(), NoMemory>
     ensures { OnOk result (out.new.items ≡ out.old.items ++ bytes.now) }
 {
@@ -18,7 +18,7 @@ pub(crate) fn append(out: &mut Vec<u8>, bytes: &[u8]) -> Result<(), NoMemory>
     Ok(())
 }
 
-/// Puts the length of a block, in two bytes, the high one first, and the block.
+// Puts the length of a block, in two bytes, the high one first, and the block.
 #[tactic(auto, unfolding(store_model::specs::Format::entry))]
 pub(crate) fn append_entry(out: &mut Vec<u8>, content: &[u8]) -> Result<(), NoMemory>
     requires { length content.now < 65536 }
@@ -29,7 +29,7 @@ pub(crate) fn append_entry(out: &mut Vec<u8>, content: &[u8]) -> Result<(), NoMe
     append(out, content)
 }
 
-/// The header of a grid's store: 13 bytes in version 1, and one more, the step, in version 2.
+// The header of a grid's store: 13 bytes in version 1, and one more, the step, in version 2.
 #[tactic(auto, unfolding(store_model::specs::Format::head_bytes))]
 pub(crate) fn head(
     alloc: Global,

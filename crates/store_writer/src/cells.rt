@@ -6,7 +6,7 @@ ghost use Rattle.store_writer.specs.Cells.{region_of, AreCells};
 
 use height_pyramid::Grid;
 
-/// The cells of a block in the terrain: so many columns and rows, from column `x0` and row `y0` of the level on.
+// The cells of a block in the terrain: so many columns and rows, from column `x0` and row `y0` of the level on.
 #[derive(Clone, Copy)]
 pub(crate) struct Cells {
     pub(crate) x0: u32,
@@ -27,7 +27,7 @@ fn blocks_on(cells: u32) -> u32
     (cells - 1) / 8 + 1
 }
 
-/// How many blocks of a level have cells in the terrain.
+// How many blocks of a level have cells in the terrain.
 pub(crate) fn block_count(grid: &Grid, level: u8) -> u32
     requires { level ≤ 11 }
     ensures value { result ≡ block_count grid.now.width grid.now.height level }
@@ -38,7 +38,7 @@ pub(crate) fn block_count(grid: &Grid, level: u8) -> u32
     blocks_on(columns) * blocks_on(rows)
 }
 
-/// How many blocks of a level a row of blocks has.
+// How many blocks of a level a row of blocks has.
 #[tactic(auto, unfolding(store_model::specs::Sizes::cells_on, terrain_model::specs::Terrain::level_columns))]
 pub(crate) fn blocks_across(grid: &Grid, level: u8) -> u32
     requires { level ≤ 11 }
@@ -50,7 +50,7 @@ pub(crate) fn blocks_across(grid: &Grid, level: u8) -> u32
     blocks_on(grid.level_size(level).0)
 }
 
-/// The cells of block `k` of a level, where the blocks are counted row by row.
+// The cells of block `k` of a level, where the blocks are counted row by row.
 pub(crate) fn cells_of_block(grid: &Grid, level: u8, k: u32) -> Cells
     requires level { level ≤ 11 }
     requires block { k < block_count grid.now.width grid.now.height level }

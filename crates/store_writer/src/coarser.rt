@@ -11,12 +11,12 @@ use height_pyramid::Grid;
 use rice_residuals::NoMemory;
 use std::alloc::Global;
 
-/// The heights of a level as a reader of the store has them.
+// The heights of a level as a reader of the store has them.
 #[derive(Drop)]
 pub(crate) enum Coarser<'a> {
-    /// Those of the grid.
+    // Those of the grid.
     Exact(LevelOf<'a>),
-    /// The restored ones, within a step of those of the grid.
+    // The restored ones, within a step of those of the grid.
     Restored(Table),
 }
 
@@ -34,7 +34,7 @@ impl<'a> Heights for Coarser<'a> {
     }
 }
 
-/// The heights of the coarsest level.
+// The heights of the coarsest level.
 pub(crate) fn coarsest<'a>(grid: &'a Grid, levels: u8, step: u8) -> Coarser<'a>
     requires some { 1 ≤ levels }
     requires few { levels ≤ 12 }
@@ -44,7 +44,7 @@ pub(crate) fn coarsest<'a>(grid: &'a Grid, levels: u8, step: u8) -> Coarser<'a>
     Coarser::Exact(LevelOf::new(grid, levels - 1))
 }
 
-/// The heights of the level below `coarser`: by a step of 1 those of the grid.
+// The heights of the level below `coarser`: by a step of 1 those of the grid.
 pub(crate) fn next_coarser<'a>(
     alloc: Global,
     grid: &'a Grid,

@@ -6,7 +6,7 @@ ghost use Rattle.terrain_model.specs.Terrain.{level_height, level_columns, level
 use four_point::Heights;
 use height_pyramid::Grid;
 
-/// A level of a grid, 0 to 11.
+// A level of a grid, 0 to 11.
 #[derive(Clone, Copy)]
 pub(crate) struct LevelOf<'a> {
     pub(crate) grid: &'a Grid,
@@ -19,7 +19,7 @@ pub(crate) struct LevelOf<'a> {
 }
 
 impl<'a> LevelOf<'a> {
-    /// A level, 0 to 11.
+    // A level, 0 to 11.
     pub(crate) fn new(grid: &'a Grid, level: u8) -> LevelOf<'a>
         requires { level ≤ 11 }
         ensures grid { result.grid.now ≡ grid.now }

@@ -18,12 +18,12 @@ use height_pyramid::Grid;
 use rice_residuals::NoMemory;
 use std::alloc::Global;
 
-/// The heights of a level, block by block: 64 of each block, row by row, with 0 at cells outside the terrain.
+// The heights of a level, block by block: 64 of each block, row by row, with 0 at cells outside the terrain.
 #[derive(Drop)]
 pub(crate) struct Table {
-    /// How many blocks a row of blocks has.
+    // How many blocks a row of blocks has.
     pub(crate) across: u32,
-    /// The heights in metres.
+    // The heights in metres.
     pub(crate) heights: Vec<i16>,
     ghost narrow: { across ≤ 2 ^ 26 },
 }
@@ -161,7 +161,7 @@ fn append_restored<F: Heights, C: Heights>(
     Ok(())
 }
 
-/// The restored heights of a level over those of the next coarser one.
+// The restored heights of a level over those of the next coarser one.
 pub(crate) fn restored_table<C: Heights>(
     alloc: Global,
     grid: &Grid,

@@ -6,14 +6,14 @@ ghost use Rattle.terrain_lines.specs.Extremes.{all_blocks, least_of, most_of};
 
 use height_pyramid::Grid;
 
-/// The least height, in metres.
+// The least height, in metres.
 pub(crate) fn least(grid: &Grid) -> i16
     ensures value { result ≡ least_of grid.now.table }
 {
     grid.least()
 }
 
-/// The greatest height, in metres.
+// The greatest height, in metres.
 pub(crate) fn most(grid: &Grid) -> i16
     ensures value { result ≡ most_of grid.now.table }
 {
@@ -55,7 +55,7 @@ fn block_count(width: u32, height: u32, level: u8) -> u64
     u64::from(blocks_on(cells_on(width, level))) * u64::from(blocks_on(cells_on(height, level)))
 }
 
-/// How many blocks the store of a terrain of this width and height has in so many levels, up to 12.
+// How many blocks the store of a terrain of this width and height has in so many levels, up to 12.
 pub(crate) fn all_blocks(width: u32, height: u32, levels: u8) -> u64
     requires some_columns { 1 ≤ width }
     requires some_rows { 1 ≤ height }

@@ -35,7 +35,7 @@ impl Shape {
     ghost use Rattle.std.specs.Prelude.{◌≤◌};
     ghost use Rattle.terrain_model.specs.Terrain.{IsTerrain};
 
-    /// The shape of a terrain with what its store's header says.
+    // The shape of a terrain with what its store's header says.
     pub(crate) fn new(header: Header, terrain: &Snapshot<Grid>) -> Shape
         requires { HasSides (record { terrain = terrain.now.value; levels = header.levels })
             header.width header.height header.levels }

@@ -40,7 +40,7 @@ impl Model for Store {
         s.index s.least s.most };
 }
 
-/// The store whose bytes stand for a grid's terrain.
+// The store whose bytes stand for a grid's terrain.
 pub(crate) fn keep(
     alloc: Global,
     bytes: Vec<u8>,
