@@ -1,8 +1,8 @@
 #!/usr/bin/env bash
 # Times settled books: for K = 8 and 12 levels, over a terrain of 1201 x 1201 samples, one pass claims, fills and gives
 # back each of 13,068 pieces and publishes what is ripe. It builds the program for that in a copy of the sources. The
-# time that it takes for no book is taken away, since it packs the terrain first. With PLAIN=PROGRAM another program,
-# whose one word is the number of books, is timed in alternating runs, and the ratio printed.
+# time that it takes for no book is taken away, since it packs the terrain first. The plain Rust engine (bench/plain_engine,
+# built by rustc -O, or PLAIN=PROGRAM with the words `settle COUNT`) settles as many in runs in turn, and the ratio is printed.
 set -eu
 top=$(cd "$(dirname "${BASH_SOURCE[0]}")/.." && pwd)
 runs=${RUNS:-15}
@@ -137,7 +137,13 @@ fn main(rt: HostRuntime) -> ExitCode {
 RT
 (cd crates/book_settle && rt run >build.log 2>&1) || { tail -n 20 crates/book_settle/build.log >&2; exit 1; }
 
-python3 - "$runs" "$books" "$PWD/crates/book_settle/out/book_settle" "${PLAIN:-}" <<'PY'
+plain=${PLAIN:-}
+if [ -z "$plain" ]; then
+    rustc --edition 2021 -O "$top/bench/plain_engine/main.rs" -o plain_engine
+    plain=$work/plain_engine
+fi
+
+python3 - "$runs" "$books" "$PWD/crates/book_settle/out/book_settle" "$plain" <<'PY'
 import os, subprocess, sys
 runs, books, program, plain = int(sys.argv[1]), int(sys.argv[2]), sys.argv[3], sys.argv[4]
 
@@ -150,9 +156,10 @@ def spent(command):
         sys.exit('%s: status %d' % (command[0], status))
     return used.ru_utime
 
-commands = {'book': ([program], [program] + ['x'] * books)}
-if plain:
-    commands['plain'] = ([plain, '0'], [plain, str(books)])
+commands = {
+    'book': ([program], [program] + ['x'] * books),
+    'plain': ([plain, 'settle', '0'], [plain, 'settle', str(books)]),
+}
 times = {name: [] for name in commands}
 for _ in range(runs):
     for name, (none, all) in commands.items():
@@ -160,6 +167,5 @@ for _ in range(runs):
 middle = lambda numbers: sorted(numbers)[len(numbers) // 2]
 for name in commands:
     print('%s: median %.2f ms, best %.2f ms a book' % (name, 1000 * middle(times[name]) / books, 1000 * min(times[name]) / books))
-if plain:
-    print('ratio: median %.2f, best %.2f' % (middle(times['book']) / middle(times['plain']), min(times['book']) / min(times['plain'])))
+print('ratio: median %.2f, best %.2f' % (middle(times['book']) / middle(times['plain']), min(times['book']) / min(times['plain'])))
 PY

@@ -1,6 +1,6 @@
 #!/usr/bin/env bash
 # Times the built program on a play and on a frame over packed stores, in runs in turn with a plain Rust engine
-# (bench/plain_engine.rs, built by rustc -O, or PLAIN=PROGRAM), which has to write the same files and lines, byte for byte:
+# (bench/plain_engine, built by rustc -O, or PLAIN=PROGRAM), which has to write the same files and lines, byte for byte:
 # a script of 200 moves of 8 samples with a settled frame after each, K = 6, six levels, over a store of 1201 x 1201 made
 # heights; and `frame 8 12 1800 1800` over one of 3601 x 3601. It prints the medians of processor time and of time on the
 # clock, their ratios, and the peaks of memory beside the sum of the store, the book, one mesh and one text.
@@ -17,7 +17,7 @@ cd "$work"
 program=${CLIPMAP:-$top/crates/clipmap/out/clipmap}
 plain=${PLAIN:-}
 if [ -z "$plain" ]; then
-    rustc --edition 2021 -O "$top/bench/plain_engine.rs" -o plain_engine
+    rustc --edition 2021 -O "$top/bench/plain_engine/main.rs" -o plain_engine
     plain=$work/plain_engine
 fi
 
