@@ -1,7 +1,7 @@
 #!/usr/bin/env bash
 # Times the built program on `check` of the frame of `frame 8 12 1800 1800` over a made tile of 3601 x 3601 samples, best
-# of several runs, and tells the most memory that it took. With PLAIN=PROGRAM another program is timed on the same words
-# in alternating runs, and the ratio printed; its line has to be the same.
+# of several runs, and tells the most memory that it took, in runs in turn with a plain Rust program (bench/plain_check.rs, built
+# by rustc -O, or PLAIN=PROGRAM), which has to write the same line, and prints the ratio.
 set -eu
 top=$(cd "$(dirname "${BASH_SOURCE[0]}")/.." && pwd)
 runs=${RUNS:-9}
@@ -26,18 +26,21 @@ open('N00E000.hgt', 'wb').write(samples.tobytes())
 PY
 "$program" frame 8 12 1800 1800 out.obj N00E000.hgt >/dev/null
 
-if [ -n "${PLAIN:-}" ]; then
-    "$program" check out.obj >ours
-    "$PLAIN" check out.obj >plain
-    cmp ours plain
+plain=${PLAIN:-}
+if [ -z "$plain" ]; then
+    rustc --edition 2021 -O "$top/bench/plain_check.rs" -o plain_check
+    plain=$work/plain_check
 fi
+"$program" check out.obj >ours
+"$plain" check out.obj >theirs
+cmp ours theirs
 
 # Wall time and processor time (user and system) of each run, in turn, and the most memory of any.
-python3 - "$runs" "$program" "${PLAIN:-}" <<'PY'
+python3 - "$runs" "$program" "$plain" <<'PY'
 import os, subprocess, sys, time
 runs, program, plain = int(sys.argv[1]), sys.argv[2], sys.argv[3]
 size = os.path.getsize('out.obj')
-names = [program] + ([plain] if plain else [])
+names = [program, plain]
 wall, spent, most = ({name: [] for name in names} for _ in range(3))
 for _ in range(runs):
     for name in names:
@@ -55,6 +58,5 @@ print('| program | best seconds | median of processor seconds | most memory over
 print('|---|---|---|---|')
 for name in names:
     print('| %s | %.4f | %.4f | %.1f |' % ('plain' if name == plain else 'clipmap', min(wall[name]), middle(spent[name]), max(most[name]) / size))
-if plain:
-    print('| ratio | %.2f | %.2f | %.2f |' % (min(wall[program]) / min(wall[plain]), middle(spent[program]) / middle(spent[plain]), max(most[program]) / max(most[plain])))
+print('| ratio | %.2f | %.2f | %.2f |' % (min(wall[program]) / min(wall[plain]), middle(spent[program]) / middle(spent[plain]), max(most[program]) / max(most[plain])))
 PY
