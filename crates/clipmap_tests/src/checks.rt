@@ -1,23 +1,21 @@
 //! Worked examples of verdicts, over a shelf and a sink in memory.
-use crate::runs::{Aftermath, TILE, owned, ran_over, shelf_of};
 use clipmap_prog::{TEXT_LIMIT, clipmap};
+use memory_runs::{Left, TILE, owned, run, shelf_of};
 use outer_shelf::{MemoryShelf, MemorySink, NoMemory, are_names_distinct};
 use std::alloc::{AllocError, Global};
 use std::thread::Threads;
 
-// The status and the output of a `check` of these bytes.
-fn judged<R: Threads + Sync + AllocGlobal>(rt: &R, text: &[u8]) -> Result<Aftermath, NoMemory> {
-    ran_over(rt, &["check", "out.obj"], &[("out.obj", text)], &[], &[])
+// What a `check` of these bytes leaves.
+fn judged<R: Threads + Sync + AllocGlobal>(rt: &R, text: &[u8]) -> Result<Left, NoMemory> {
+    run(rt, &["check", "out.obj"], &[("out.obj", text)])
 }
 
 // The text of the frame of so many levels of the least size at (1, 1), over a tile of height 0.
 fn frame_of<R: Threads + Sync + AllocGlobal>(rt: &R, levels: &str) -> Option<Vec<u8>> {
     let words = ["frame", "4", levels, "1", "1", "out.obj", TILE];
-    let Ok(left) = ran_over(rt, &words, &[(TILE, &[0u8; 18])], &[], &[]) else {
-        return None;
-    };
-    let Aftermath { status, file, .. } = left;
-    if status == 0 { file } else { None }
+    let left = run(rt, &words, &[(TILE, &[0u8; 18])]).ok()?;
+    let text = left.done("out.obj")?;
+    Vec::from_slice(rt.alloc(), text).ok()
 }
 
 // The text without the line of that number, counted from 0.
@@ -46,7 +44,7 @@ fn judges_drawn_frames(rt: HostRuntime) {
             panic!(rt; "no memory");
         };
         assert_eq!(rt; left.status, 0, "{output}");
-        assert!(rt; left.output.as_slice() == output.as_bytes(), "{output}");
+        assert!(rt; left.log() == output.as_bytes(), "{output}");
     }
     let Some(text) = frame_of(&rt, "2") else {
         panic!(rt; "no frame");
@@ -57,10 +55,7 @@ fn judges_drawn_frames(rt: HostRuntime) {
         panic!(rt; "no memory");
     };
     assert_eq!(rt; left.status, 2);
-    assert_eq!(rt;
-        left.output.as_slice(),
-        b"fault: crack 1 2 count 1\n".as_slice()
-    );
+    assert_eq!(rt; left.log(), b"fault: crack 1 2 count 1\n".as_slice());
 }
 
 // The frame is read from the shelf on which `frame` put it, and stays as it was.
@@ -139,7 +134,7 @@ fn tells_of_texts(rt: HostRuntime) {
             panic!(rt; "no memory");
         };
         assert_eq!(rt; left.status, status, "{text}");
-        assert!(rt; left.output.as_slice() == output.as_bytes(), "{text}");
+        assert!(rt; left.log() == output.as_bytes(), "{text}");
     }
 }
 
@@ -161,11 +156,11 @@ fn refused_words_and_names(rt: HostRuntime) {
         (["check", "out.obj"].as_slice(), 2, "fault: bad line 1\n"),
     ];
     for (words, status, output) in table {
-        let Ok(left) = ran_over(&rt, words, &files, &[], &[]) else {
+        let Ok(left) = run(&rt, words, &files) else {
             panic!(rt; "no memory");
         };
         assert_eq!(rt; left.status, status, "{output}");
-        assert!(rt; left.output.as_slice() == output.as_bytes(), "{output}");
+        assert!(rt; left.log() == output.as_bytes(), "{output}");
     }
 }
 

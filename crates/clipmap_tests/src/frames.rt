@@ -1,26 +1,22 @@
 //! Worked frames of one level, refused inputs, and failing calls.
-use crate::runs::{Aftermath, FIRST, NINE, TILE, line, ran};
+use memory_runs::{NINE, TILE, line, run, run_failing};
+
+// The words of the first frame.
+const FIRST: [&str; 7] = ["frame", "4", "1", "1", "1", "out.obj", TILE];
 
 // The first run of the program. It refuses a body that always answers want of memory, which no clause can.
 #[test]
 fn first_frame(rt: HostRuntime) {
-    let Ok(left) = ran(&rt, &FIRST, &NINE, &[], &[]) else {
+    let Ok(left) = run(&rt, &FIRST, &[(TILE, &NINE)]) else {
         panic!(rt; "no memory");
     };
-    let Aftermath {
-        status,
-        output,
-        file,
-    } = left;
-    let Some(file) = file else {
+    let Some(text) = left.done("out.obj") else {
         panic!(rt; "no file");
     };
-    assert_eq!(rt; status, 0);
     assert_eq!(rt;
-        output.as_slice(),
+        left.log(),
         b"frame 0 vertices 225 triangles 392\n".as_slice()
     );
-    let text = file.as_slice();
     assert_eq!(rt; text.iter().filter(|byte| **byte == b'\n').count(), 620);
     let lines = [
         (0, "# clipmap frame 0"),
@@ -44,15 +40,12 @@ fn first_frame(rt: HostRuntime) {
 #[test]
 fn frame_far_from_the_tile(rt: HostRuntime) {
     let words = ["frame", "4", "1", "-4194304", "4194304", "out.obj", TILE];
-    let Ok(left) = ran(&rt, &words, &NINE, &[], &[]) else {
+    let Ok(left) = run(&rt, &words, &[(TILE, &NINE)]) else {
         panic!(rt; "no memory");
     };
-    let Aftermath { status, file, .. } = left;
-    let Some(file) = file else {
+    let Some(text) = left.done("out.obj") else {
         panic!(rt; "no file");
     };
-    assert_eq!(rt; status, 0);
-    let text = file.as_slice();
     let head = "# level 0 active -4194310 4194298 -4194296 4194312";
     assert!(rt; line(text, 2) == head.as_bytes());
     assert!(rt; line(text, 3) == "v -4194310 0.00000 4194298".as_bytes());
@@ -101,12 +94,12 @@ fn refused_inputs(rt: HostRuntime) {
     ];
     for (levels, input, bytes, want) in table {
         let words = ["frame", "4", levels, "1", "1", "out.obj", input];
-        let Ok(ran) = ran(&rt, &words, bytes, &[], &[]) else {
+        let Ok(left) = run(&rt, &words, &[(TILE, bytes)]) else {
             panic!(rt; "no memory");
         };
-        assert_eq!(rt; ran.status, 2, "{want}");
-        assert!(rt; ran.output.as_slice() == want.as_bytes(), "{want}");
-        assert!(rt; ran.file.is_none(), "{want}");
+        assert_eq!(rt; left.status, 2, "{want}");
+        assert!(rt; left.log() == want.as_bytes(), "{want}");
+        assert!(rt; left.file("out.obj").is_none(), "{want}");
     }
 }
 
@@ -120,11 +113,12 @@ fn failing_calls(rt: HostRuntime) {
         (wrong.as_slice(), [].as_slice(), [0].as_slice(), 4, false),
     ];
     for (words, shelf_failing, sink_failing, status, stands) in table {
-        let Ok(ran) = ran(&rt, words, &NINE, shelf_failing, sink_failing) else {
+        let files = [(TILE, NINE.as_slice())];
+        let Ok(left) = run_failing(&rt, words, &files, shelf_failing, sink_failing) else {
             panic!(rt; "no memory");
         };
-        assert_eq!(rt; ran.status, status);
-        assert!(rt; ran.output.is_empty());
-        assert_eq!(rt; ran.file.is_some(), stands);
+        assert_eq!(rt; left.status, status);
+        assert!(rt; left.log().is_empty());
+        assert_eq!(rt; left.file("out.obj").is_some(), stands);
     }
 }

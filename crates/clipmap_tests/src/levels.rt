@@ -1,28 +1,21 @@
 //! Worked frames of several levels.
-use crate::runs::{Aftermath, TILE, line, ran_over};
 use crate::tiles::sea;
+use memory_runs::{TILE, line, run};
 
 // Two whole windows over a flat tile: the first stitch is the triangle of the first three vertices.
 #[test]
 fn two_levels(rt: HostRuntime) {
     let words = ["frame", "4", "2", "1", "1", "out.obj", TILE];
-    let Ok(left) = ran_over(&rt, &words, &[(TILE, &[0u8; 18])], &[], &[]) else {
+    let Ok(left) = run(&rt, &words, &[(TILE, &[0u8; 18])]) else {
         panic!(rt; "no memory");
     };
-    let Aftermath {
-        status,
-        output,
-        file,
-    } = left;
-    let Some(file) = file else {
+    let Some(text) = left.done("out.obj") else {
         panic!(rt; "no file");
     };
-    assert_eq!(rt; status, 0);
     assert_eq!(rt;
-        output.as_slice(),
+        left.log(),
         b"frame 0 vertices 386 triangles 714\n".as_slice()
     );
-    let text = file.as_slice();
     let lines = [
         (2, "# level 0 active -6 -6 8 8"),
         (3, "# level 1 active -6 -6 8 8"),
@@ -41,23 +34,16 @@ fn two_levels(rt: HostRuntime) {
 fn six_levels(rt: HostRuntime) {
     let words = ["frame", "6", "6", "600", "600", "out.obj", TILE];
     let bytes = sea(rt.alloc()).expect(&rt, "memory");
-    let Ok(left) = ran_over(&rt, &words, &[(TILE, bytes.as_slice())], &[], &[]) else {
+    let Ok(left) = run(&rt, &words, &[(TILE, bytes.as_slice())]) else {
         panic!(rt; "no memory");
     };
-    let Aftermath {
-        status,
-        output,
-        file,
-    } = left;
-    let Some(file) = file else {
+    let Some(text) = left.done("out.obj") else {
         panic!(rt; "no file");
     };
-    assert_eq!(rt; status, 0);
     assert_eq!(rt;
-        output.as_slice(),
+        left.log(),
         b"frame 0 vertices 18694 triangles 37138\n".as_slice()
     );
-    let text = file.as_slice();
     let levels = [
         (2, "# level 0 active 570 570 632 632"),
         (3, "# level 1 active 270 270 332 332"),
@@ -75,15 +61,13 @@ fn six_levels(rt: HostRuntime) {
 #[test]
 fn twelve_levels_far_off(rt: HostRuntime) {
     let words = ["frame", "4", "12", "-4194304", "4194304", "out.obj", TILE];
-    let Ok(left) = ran_over(&rt, &words, &[(TILE, &[1u8; 18])], &[], &[]) else {
+    let Ok(left) = run(&rt, &words, &[(TILE, &[1u8; 18])]) else {
         panic!(rt; "no memory");
     };
-    let Aftermath { status, file, .. } = left;
-    let Some(file) = file else {
+    let Some(text) = left.done("out.obj") else {
         panic!(rt; "no file");
     };
-    assert_eq!(rt; status, 0);
-    for vertex in file.as_slice().split(|byte| *byte == b'\n') {
+    for vertex in text.split(|byte| *byte == b'\n') {
         if vertex.starts_with(b"v ") {
             assert!(rt; vertex.windows(9).any(|part| part == " 0.00000 ".as_bytes()));
         }

@@ -11,8 +11,6 @@ mod levels;
 #[cfg(test)]
 mod plays;
 #[cfg(test)]
-mod runs;
-#[cfg(test)]
 mod stores;
 #[cfg(test)]
 mod tiles;

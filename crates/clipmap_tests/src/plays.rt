@@ -1,67 +1,24 @@
 //! Worked examples of `play`, over a shelf and a sink in memory.
-use crate::runs::{NINE, TILE, line, owned, ran_over, shelf_of};
-use clipmap_prog::clipmap;
-use outer_shelf::{MemorySink, NoMemory};
+use memory_runs::{Left, NINE, STORE, TILE, line, run, run_failing};
+use outer_shelf::NoMemory;
 use std::alloc::Global;
 use std::thread::Threads;
 
 // The 3 × 3 tile of the height 0.
 const SEA: [u8; 18] = [0; 18];
 
-// The exact store of two levels of the tile with 30000 in the middle.
-const STORE: [u8; 33] = [
-    0x47, 0x43, 0x54, 0x31, 0, 0, 0, 3, 0, 0, 0, 3, 2, 0, 8, 0, 0, 0, 0, 0, 0, 0, 0, 0, 8, 0x03,
-    0xff, 0xff, 0xff, 0xfc, 0xea, 0x60, 0x00,
-];
-
-// What a play left: its status, its log, and the first two frames.
-#[derive(Drop)]
-pub(crate) struct Played {
-    pub(crate) status: u8,
-    pub(crate) log: Vec<u8>,
-    pub(crate) frames: [Option<Vec<u8>>; 2],
-}
-
 // The calls that fail in a run.
 #[derive(Clone, Copy)]
-pub(crate) struct Failing<'a> {
-    pub(crate) shelf: &'a [u64],
-    pub(crate) sink: &'a [u64],
+struct Failing<'a> {
+    shelf: &'a [u64],
+    sink: &'a [u64],
 }
 
 // No call fails.
-pub(crate) const NONE: Failing<'static> = Failing {
+const NONE: Failing<'static> = Failing {
     shelf: &[],
     sink: &[],
 };
-
-// Runs the words over these files.
-pub(crate) fn ran<R: Threads + Sync + AllocGlobal>(
-    rt: &R,
-    words: &[&str],
-    files: &[(&str, &[u8])],
-    failing: &Failing<'_>,
-) -> Result<Played, NoMemory> {
-    let alloc = rt.alloc();
-    let words = owned(alloc, words)?;
-    let mut shelf = shelf_of(alloc, files, failing.shelf)?;
-    let mut sink = MemorySink::new(alloc, Vec::from_slice(alloc, failing.sink)?);
-    let status = clipmap(rt, alloc, words.as_slice(), &mut shelf, &mut sink);
-    let first = match shelf.file("out-0.obj") {
-        Some(text) => Some(Vec::from_slice(alloc, text)?),
-        None => None,
-    };
-    let second = match shelf.file("out-1.obj") {
-        Some(text) => Some(Vec::from_slice(alloc, text)?),
-        None => None,
-    };
-    let log = Vec::from_slice(alloc, sink.bytes())?;
-    Ok(Played {
-        status,
-        log,
-        frames: [first, second],
-    })
-}
 
 // Plays a script over a tile.
 fn run_script<R: Threads + Sync + AllocGlobal>(
@@ -69,9 +26,10 @@ fn run_script<R: Threads + Sync + AllocGlobal>(
     script: &[u8],
     tile: &[u8],
     failing: &Failing<'_>,
-) -> Result<Played, NoMemory> {
+) -> Result<Left, NoMemory> {
     let files = [("s", script), (TILE, tile)];
-    ran(rt, &["play", "s", "out", TILE], &files, failing)
+    let words = ["play", "s", "out", TILE];
+    run_failing(rt, &words, &files, failing.shelf, failing.sink)
 }
 
 // So many pairs of a claim and a finish of pass 0.
@@ -111,9 +69,9 @@ fn plays_without_a_job(rt: HostRuntime) {
         end 0: closed 0 vertices 0 triangles 0\n";
     let text = "# clipmap frame 0\n# viewer 0 0\n# level 0 empty\n";
     assert_eq!(rt; left.status, 0);
-    assert_eq!(rt; left.log.as_slice(), log.as_bytes());
-    assert!(rt; left.frames[0].as_deref() == Some(text.as_bytes()));
-    assert!(rt; left.frames[1].is_none());
+    assert_eq!(rt; left.log(), log.as_bytes());
+    assert!(rt; left.file("out-0.obj") == Some(text.as_bytes()));
+    assert!(rt; left.file("out-1.obj").is_none());
 }
 
 // Both frames are drawn after the move, which gives them no new piece.
@@ -128,7 +86,7 @@ fn plays_two_open_frames(rt: HostRuntime) {
         panic!(rt; "no memory");
     };
     let words = ["frame", "4", "1", "1", "1", "out.obj", TILE];
-    let Ok(whole) = ran_over(&rt, &words, &[(TILE, NINE.as_slice())], &[], &[]) else {
+    let Ok(whole) = run(&rt, &words, &[(TILE, NINE.as_slice())]) else {
         panic!(rt; "no memory");
     };
     assert_eq!(rt; left.status, 0);
@@ -148,16 +106,16 @@ fn plays_two_open_frames(rt: HostRuntime) {
         (28, ""),
     ];
     for (number, want) in lines {
-        assert_eq!(rt; line(left.log.as_slice(), number), want.as_bytes());
+        assert_eq!(rt; line(left.log(), number), want.as_bytes());
     }
-    let [first, second] = &left.frames;
-    assert!(rt; whole.status == 0 && first.is_some() && second.is_some());
-    assert!(rt; first.as_deref() == whole.file.as_deref());
+    let (first, second) = (left.file("out-0.obj"), left.file("out-1.obj"));
+    let one = whole.done("out.obj");
+    assert!(rt; one.is_some() && first == one);
     let front = b"# clipmap frame 0".len();
-    let number = second.as_deref().and_then(|text| text.get(..front));
+    let number = second.and_then(|text| text.get(..front));
     assert!(rt; number == Some(b"# clipmap frame 1".as_slice()));
-    let after = second.as_deref().and_then(|text| text.get(front..));
-    assert!(rt; after == whole.file.as_deref().and_then(|text| text.get(front..)));
+    let after = second.and_then(|text| text.get(front..));
+    assert!(rt; after == one.and_then(|text| text.get(front..)));
 }
 
 #[test]
@@ -181,10 +139,10 @@ fn plays_two_levels(rt: HostRuntime) {
             panic!(rt; "no memory");
         };
         assert_eq!(rt; left.status, 0);
-        let log = left.log.as_slice();
+        let log = left.log();
         let count = log.iter().filter(|byte| **byte == b'\n').count();
         assert_eq!(rt; line(log, count.saturating_sub(1)), want.as_bytes());
-        assert!(rt; left.frames[0].is_some());
+        assert!(rt; left.file("out-0.obj").is_some());
     }
 }
 
@@ -199,8 +157,8 @@ fn plays_a_view_of_nothing(rt: HostRuntime) {
         endseen 0: closed 0 kept 0 of 0 vertices 0 triangles 0\n";
     let text = "# clipmap frame 0\n# viewer 0 0\n# level 0 empty\n# kept 0 of 0\n";
     assert_eq!(rt; left.status, 0);
-    assert_eq!(rt; left.log.as_slice(), log.as_bytes());
-    assert!(rt; left.frames[0].as_deref() == Some(text.as_bytes()));
+    assert_eq!(rt; left.log(), log.as_bytes());
+    assert!(rt; left.file("out-0.obj") == Some(text.as_bytes()));
 }
 
 // The script is judged before the names of the inputs, and all of them before an input is fetched. Nothing is put.
@@ -225,18 +183,18 @@ fn refuses(rt: HostRuntime) {
         ("s", "a.gct", "fault: LevelsDiffer 2 1\n"),
     ];
     for (script, input, want) in table {
-        let Ok(left) = ran(&rt, &["play", script, "out", input], &files, &NONE) else {
+        let Ok(left) = run(&rt, &["play", script, "out", input], &files) else {
             panic!(rt; "no memory");
         };
         assert_eq!(rt; left.status, 2);
-        assert_eq!(rt; left.log.as_slice(), want.as_bytes());
-        assert!(rt; left.frames[0].is_none());
+        assert_eq!(rt; left.log(), want.as_bytes());
+        assert!(rt; left.file("out-0.obj").is_none());
     }
-    let Ok(left) = ran(&rt, &["play", "two", "out", "a.gct"], &files, &NONE) else {
+    let Ok(left) = run(&rt, &["play", "two", "out", "a.gct"], &files) else {
         panic!(rt; "no memory");
     };
     assert_eq!(rt; left.status, 0);
-    assert!(rt; left.frames[0].is_some());
+    assert!(rt; left.file("out-0.obj").is_some());
 }
 
 // The calls of the shelf are the script's fetch, the tile's, and the two puts; those of the sink are the lines.
@@ -257,8 +215,8 @@ fn fails_on_its_calls(rt: HostRuntime) {
             panic!(rt; "no memory");
         };
         assert_eq!(rt; left.status, status);
-        assert_eq!(rt; left.log.as_slice(), log.as_bytes());
-        assert_eq!(rt; left.frames[0].is_some(), stands);
-        assert!(rt; left.frames[1].is_none());
+        assert_eq!(rt; left.log(), log.as_bytes());
+        assert_eq!(rt; left.file("out-0.obj").is_some(), stands);
+        assert!(rt; left.file("out-1.obj").is_none());
     }
 }

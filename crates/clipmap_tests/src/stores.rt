@@ -1,49 +1,11 @@
 //! Worked examples of stores, over a shelf and a sink in memory.
-use crate::runs::{TILE, owned, shelf_of};
-use clipmap_prog::clipmap;
 use height_pyramid::Grid;
-use outer_shelf::{MemorySink, NoMemory};
+use memory_runs::{Left, STORE, TILE, run};
+use outer_shelf::NoMemory;
 use std::alloc::Global;
 use std::thread::Threads;
 use store_reader::read_heights;
 use store_writer::canonical_bytes;
-
-// What a run over some files left: its status, what it wrote, and the file `o`.
-#[derive(Drop)]
-struct Left {
-    status: u8,
-    output: Vec<u8>,
-    file: Option<Vec<u8>>,
-}
-
-// Runs the words over these files.
-fn run<R: Threads + Sync + AllocGlobal>(
-    rt: &R,
-    words: &[&str],
-    files: &[(&str, &[u8])],
-) -> Result<Left, NoMemory> {
-    let alloc = rt.alloc();
-    let words = owned(alloc, words)?;
-    let mut shelf = shelf_of(alloc, files, &[])?;
-    let mut sink = MemorySink::new(alloc, Vec::new(alloc));
-    let status = clipmap(rt, alloc, words.as_slice(), &mut shelf, &mut sink);
-    let file = match shelf.file("o") {
-        Some(bytes) => Some(Vec::from_slice(alloc, bytes)?),
-        None => None,
-    };
-    let output = Vec::from_slice(alloc, sink.bytes())?;
-    Ok(Left {
-        status,
-        output,
-        file,
-    })
-}
-
-// The file of a run that was done.
-fn file_of(left: Left) -> Option<Vec<u8>> {
-    let Left { status, file, .. } = left;
-    if status == 0 { file } else { None }
-}
 
 // Bytes in hexadecimal.
 fn hex(alloc: Global, bytes: &[u8]) -> Result<String, NoMemory> {
@@ -63,12 +25,6 @@ fn peak(height: u16) -> [u8; 18] {
     bytes[9] = (height % 256) as u8;
     bytes
 }
-
-// The exact store of the tile with 30000 in the middle.
-const FIRST: [u8; 33] = [
-    0x47, 0x43, 0x54, 0x31, 0, 0, 0, 3, 0, 0, 0, 3, 2, 0, 8, 0, 0, 0, 0, 0, 0, 0, 0, 0, 8, 0x03,
-    0xff, 0xff, 0xff, 0xfc, 0xea, 0x60, 0x00,
-];
 
 #[test]
 fn packs_a_tile(rt: HostRuntime) {
@@ -120,17 +76,11 @@ fn packs_a_tile(rt: HostRuntime) {
         let Ok(left) = run(&rt, words, &[(TILE, tile)]) else {
             panic!(rt; "no memory");
         };
-        let Left {
-            status,
-            output: written,
-            file,
-        } = left;
-        assert_eq!(rt; status, 0, "{output}");
-        assert!(rt; written.as_slice() == output.as_bytes(), "{output}");
-        let Some(file) = file else {
+        assert!(rt; left.log() == output.as_bytes(), "{output}");
+        let Some(file) = left.done("o") else {
             panic!(rt; "no file");
         };
-        let Ok(found) = hex(alloc, file.as_slice()) else {
+        let Ok(found) = hex(alloc, file) else {
             panic!(rt; "no memory");
         };
         assert!(rt; found.as_str() == bytes, "{output}");
@@ -141,28 +91,28 @@ fn packs_a_tile(rt: HostRuntime) {
 #[test]
 fn carries_a_store_over(rt: HostRuntime) {
     let words = ["packq", "2", "1", "o", "out.gct"];
-    let Ok(left) = run(&rt, &words, &[("out.gct", &FIRST)]) else {
+    let Ok(left) = run(&rt, &words, &[("out.gct", &STORE)]) else {
         panic!(rt; "no memory");
     };
-    let Some(file) = file_of(left) else {
+    let Some(file) = left.done("o") else {
         panic!(rt; "no file");
     };
-    let Ok(found) = hex(rt.alloc(), file.as_slice()) else {
+    let Ok(found) = hex(rt.alloc(), file) else {
         panic!(rt; "no memory");
     };
     let want = "474354320000000300000003020100080000000000000000000803fffffffcea6000";
     assert_eq!(rt; found.as_str(), want);
-    let Ok(left) = told(&rt, file.as_slice()) else {
+    let Ok(left) = told(&rt, file) else {
         panic!(rt; "no memory");
     };
     let line = "terrain 3 3\nheights 0 30000\nstore version 2 step 1 levels 2 blocks 2 bytes 34\n";
     assert_eq!(rt; left.status, 0);
-    assert!(rt; left.output.as_slice() == line.as_bytes());
+    assert!(rt; left.log() == line.as_bytes());
 }
 
 // A store with other bytes in these places.
 fn changed(first: usize, second: usize, bytes: [u8; 2]) -> [u8; 33] {
-    let mut store = FIRST;
+    let mut store = STORE;
     if first < 33 && second < 33 {
         store[first] = bytes[0];
         store[second] = bytes[1];
@@ -190,7 +140,7 @@ fn tells_of_tiles_and_stores(rt: HostRuntime) {
         ),
         (
             "a/b.GcT",
-            FIRST.as_slice(),
+            STORE.as_slice(),
             0,
             "terrain 3 3\nheights 0 30000\nstore version 1 levels 2 blocks 2 bytes 33\n",
         ),
@@ -213,7 +163,7 @@ fn tells_of_tiles_and_stores(rt: HostRuntime) {
             panic!(rt; "no memory");
         };
         assert_eq!(rt; left.status, status, "{output}");
-        assert!(rt; left.output.as_slice() == output.as_bytes(), "{output}");
+        assert!(rt; left.log() == output.as_bytes(), "{output}");
     }
 }
 
@@ -228,7 +178,7 @@ fn faulty_stores(rt: HostRuntime) {
     let longer = {
         let mut bytes = [0u8; 34];
         for n in 0..33usize {
-            bytes[n] = FIRST[n];
+            bytes[n] = STORE[n];
         }
         bytes
     };
@@ -252,7 +202,7 @@ fn faulty_stores(rt: HostRuntime) {
         (samples.as_slice(), "BadHeader samples"),
         (levels.as_slice(), "BadHeader levels"),
         (even.as_slice(), "BadHeader step"),
-        (&FIRST[..12], "CutShort 12"),
+        (&STORE[..12], "CutShort 12"),
         (padding.as_slice(), "BadBlock 0 0 0 BadPadding 63"),
         (short_block.as_slice(), "BadBlock 0 0 0 CutShort 56"),
         (long_form.as_slice(), "BadBlock 0 0 0 LongForm 6"),
@@ -265,7 +215,7 @@ fn faulty_stores(rt: HostRuntime) {
         };
         let want = format!(in rt.alloc(); "fault: store {words}\n").expect(&rt, "memory");
         assert_eq!(rt; left.status, 2, "{words}");
-        assert!(rt; left.output.as_slice() == want.as_bytes(), "{words}");
+        assert!(rt; left.log() == want.as_bytes(), "{words}");
     }
 }
 
@@ -319,8 +269,8 @@ fn refused_stores(rt: HostRuntime) {
             panic!(rt; "no memory");
         };
         assert_eq!(rt; left.status, status, "{output}");
-        assert!(rt; left.output.as_slice() == output.as_bytes(), "{output}");
-        assert!(rt; left.file.is_none(), "{output}");
+        assert!(rt; left.log() == output.as_bytes(), "{output}");
+        assert!(rt; left.file("o").is_none(), "{output}");
     }
 }
 
@@ -336,11 +286,10 @@ fn draws_over_a_store(rt: HostRuntime) {
     let Ok(left) = run(&rt, &words, &files) else {
         panic!(rt; "no memory");
     };
-    let Some(file) = file_of(left) else {
+    let Some(file) = left.done("o") else {
         panic!(rt; "no file");
     };
     let vertices = file
-        .as_slice()
         .split(|byte| *byte == b'\n')
         .filter(|line| line.starts_with(b"v ".as_slice()));
     assert!(rt; vertices.skip(112).next() == Some(b"v 1 1001.00000 1".as_slice()));
@@ -349,8 +298,8 @@ fn draws_over_a_store(rt: HostRuntime) {
         panic!(rt; "no memory");
     };
     assert_eq!(rt; left.status, 2);
-    assert!(rt; left.output.as_slice() == b"fault: LevelsDiffer 2 3\n".as_slice());
-    assert!(rt; left.file.is_none());
+    assert!(rt; left.log() == b"fault: LevelsDiffer 2 3\n".as_slice());
+    assert!(rt; left.file("o").is_none());
 }
 
 // 100 × 67 heights drawn at random, from the lowest to the highest of 16 bits.
@@ -412,10 +361,10 @@ fn packs_and_reads_back(rt: HostRuntime) {
             let Ok(left) = run(&rt, &words, &[("a.gct", exact.as_slice())]) else {
                 panic!(rt; "no memory");
             };
-            let Some(file) = file_of(left) else {
+            let Some(file) = left.done("o") else {
                 panic!(rt; "no file");
             };
-            let Ok(read) = read_heights(alloc, file.as_slice()) else {
+            let Ok(read) = read_heights(alloc, file) else {
                 panic!(rt; "no store");
             };
             assert_eq!(rt; (read.grid.width(), read.grid.height()), (100, 67));

@@ -1,5 +1,5 @@
 //! Worked examples of sets of tiles, over a shelf and a sink in memory.
-use crate::runs::{Aftermath, line, ran_over};
+use memory_runs::{line, run};
 use std::alloc::{AllocError, Global};
 use std::thread::Threads;
 
@@ -27,11 +27,9 @@ fn drawn<R: Threads + Sync + AllocGlobal>(
     words: &[&str],
     files: &[(&str, &[u8])],
 ) -> Option<Vec<u8>> {
-    let Ok(left) = ran_over(rt, words, files, &[], &[]) else {
-        return None;
-    };
-    let Aftermath { status, file, .. } = left;
-    if status == 0 { file } else { None }
+    let left = run(rt, words, files).ok()?;
+    let text = left.done("out.obj")?;
+    Vec::from_slice(rt.alloc(), text).ok()
 }
 
 // The place of the vertex at (x, z) in the text of a frame of size 4 round the viewer (1, 1), counted in lines.
@@ -208,12 +206,12 @@ fn faulty_sets(rt: HostRuntime) {
         let head = ["frame", "4", "1", "1", "1", "out.obj"];
         let mut words = Vec::from_slice(alloc, &head).expect(&rt, "memory");
         words.extend_from_slice(names).expect(&rt, "memory");
-        let Ok(left) = ran_over(&rt, words.as_slice(), &files, &[], &[]) else {
+        let Ok(left) = run(&rt, words.as_slice(), &files) else {
             panic!(rt; "no memory");
         };
         assert_eq!(rt; left.status, 2, "{want}");
-        assert!(rt; left.output.as_slice() == want.as_bytes(), "{want}");
-        assert!(rt; left.file.is_none(), "{want}");
+        assert!(rt; left.log() == want.as_bytes(), "{want}");
+        assert!(rt; left.file("out.obj").is_none(), "{want}");
     }
 }
 
@@ -235,10 +233,10 @@ fn too_large_sets(rt: HostRuntime) {
     for (first, second, want) in table {
         let files = [(first, tile.as_slice()), (second, tile.as_slice())];
         let words = ["frame", "4", "1", "1", "1", "out.obj", first, second];
-        let Ok(left) = ran_over(&rt, &words, &files, &[], &[]) else {
+        let Ok(left) = run(&rt, &words, &files) else {
             panic!(rt; "no memory");
         };
         assert_eq!(rt; left.status, 2, "{want}");
-        assert!(rt; left.output.as_slice() == want.as_bytes(), "{want}");
+        assert!(rt; left.log() == want.as_bytes(), "{want}");
     }
 }

@@ -1,6 +1,6 @@
 //! Each call of the shelf and of the sink failing in turn, for the commands that put at most one file.
-use crate::runs::{NINE, STORE};
-use crate::trial::{Trial, tried, words_of};
+use crate::trial::try_each;
+use memory_runs::{NINE, STORE};
 use std::test::Fail;
 
 // Tiles side by side, a store, faulty files, a text without a triangle, and the old file under the name OUT.
@@ -118,16 +118,5 @@ fn each_call_fails(rt: HostRuntime) -> Result<(), Fail> {
         ("check", 0, 1, [("", "fault: words\n")].as_slice()),
         ("frame", 0, 1, [("", "fault: words\n")].as_slice()),
     ];
-    for (line, fetches, status, acts) in table {
-        let words = words_of(rt.alloc(), line)?;
-        let trial = Trial {
-            words: words.as_slice(),
-            files: &FILES,
-            fetches,
-            status,
-            acts,
-        };
-        assert!(rt; tried(&rt, &trial)?, "{line}");
-    }
-    Ok(())
+    try_each(&rt, &FILES, &table)
 }

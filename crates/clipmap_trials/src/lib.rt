@@ -9,8 +9,6 @@ mod changes;
 #[cfg(test)]
 mod plays;
 #[cfg(test)]
-mod runs;
-#[cfg(test)]
 mod scripts;
 #[cfg(test)]
 mod stores;

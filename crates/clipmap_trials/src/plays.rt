@@ -1,6 +1,6 @@
 //! Plays with each call of the shelf and of the sink failing in turn: the files and lines of earlier events stand.
-use crate::runs::{NINE, STORE, run};
-use crate::trial::{Act, OUTS, Trial, tried, words_of};
+use crate::trial::{Act, OUTS, Trial, tried, try_each, words_of};
+use memory_runs::{NINE, STORE, run};
 use std::alloc::{AllocError, Global};
 use std::test::Fail;
 use std::thread::Threads;
@@ -98,18 +98,7 @@ fn each_call_of_a_play_fails(rt: HostRuntime) -> Result<(), Fail> {
             [("", "fault: LevelsDiffer 2 1\n")].as_slice(),
         ),
     ];
-    for (line, fetches, status, acts) in table {
-        let words = words_of(rt.alloc(), line)?;
-        let trial = Trial {
-            words: words.as_slice(),
-            files: &FILES,
-            fetches,
-            status,
-            acts,
-        };
-        assert!(rt; tried(&rt, &trial)?, "{line}");
-    }
-    Ok(())
+    try_each(&rt, &FILES, &table)
 }
 
 // A script that fills two levels, and draws and ends five frames of them, of which a view keeps parts of one.
@@ -154,7 +143,7 @@ fn tried_by_its_log<R: Threads + Sync + AllocGlobal>(
     counts: Counts,
 ) -> Result<bool, Fail> {
     let whole = run(rt, words, files)?;
-    let log = str::from_utf8(whole.sink.bytes())?;
+    let log = str::from_utf8(whole.log())?;
     let mut acts = Vec::new(rt.alloc());
     for line in log.split_inclusive('\n') {
         acts.push((file_of(line), line))?;

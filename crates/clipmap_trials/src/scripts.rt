@@ -1,7 +1,7 @@
 //! Scripts that are cut and changed: the reader and a `play` say the same of them.
 use crate::changes::{below, changed, next};
-use crate::runs::{Left, NINE, TILE, lines, run};
 use clip_script::{ScriptFault, read_play};
+use memory_runs::{Left, NINE, TILE, lines, run};
 use std::alloc::{AllocError, Global};
 use std::test::Fail;
 use std::thread::Threads;
@@ -61,18 +61,18 @@ fn said_of(alloc: Global, text: &[u8]) -> Option<Said> {
 fn are_told(alloc: Global, left: &Left) -> Result<bool, Fail> {
     let mut told = 0usize;
     let mut passed = true;
-    for line in str::from_utf8(left.sink.bytes())?.split('\n') {
+    for line in str::from_utf8(left.log())?.split('\n') {
         if let Some((_, rest)) = line.split_once(": closed ") {
             let number = rest.split(' ').next().unwrap_or("");
             let name = format!(in alloc; "o-{number}.obj")?;
-            passed &= left.shelf.file(name.as_str()).is_some();
+            passed &= left.file(name.as_str()).is_some();
             told = told.saturating_add(1);
         }
     }
     let mut there = 0usize;
     for number in 0..100u8 {
         let name = format!(in alloc; "o-{number}.obj")?;
-        if left.shelf.file(name.as_str()).is_some() {
+        if left.file(name.as_str()).is_some() {
             there = there.saturating_add(1);
         }
     }
@@ -85,16 +85,15 @@ fn agrees<R: Threads + Sync + AllocGlobal>(rt: &R, text: &[u8], said: &Said) -> 
     let alloc = rt.alloc();
     let files = [("s", text), (TILE, NINE.as_slice())];
     let left = run(rt, &["play", "s", "o", TILE], &files)?;
-    let stays = left.shelf.file("s") == Some(text)
-        && left.shelf.file(TILE) == Some(NINE.as_slice());
+    let stays = left.file("s") == Some(text) && left.file(TILE) == Some(NINE.as_slice());
     let done = match said {
-        Said::Steps(steps) => left.status == 0 && lines(left.sink.bytes()) == *steps,
+        Said::Steps(steps) => left.status == 0 && lines(left.log()) == *steps,
         Said::BadLine(line) => {
             let want = format!(in alloc; "fault: BadLine {line}\n")?;
             left.is_refused(want.as_bytes())
         }
     };
-    Ok(stays && done && left.shelf.file("o").is_none() && are_told(alloc, &left)?)
+    Ok(stays && done && left.file("o").is_none() && are_told(alloc, &left)?)
 }
 
 // Whether something may be said of the text, and a `play` does the same. Of the refused texts only those that are
@@ -178,7 +177,7 @@ fn scripts_too_long(rt: HostRuntime) -> Result<(), Fail> {
         let files = [("s", text.as_slice())];
         let left = run(&rt, &["play", "s", "o", TILE], &files)?;
         assert!(rt; left.is_refused(want.as_bytes()), "{want}");
-        assert!(rt; left.shelf.file("s") == Some(text.as_slice()), "{want}");
+        assert!(rt; left.file("s") == Some(text.as_slice()), "{want}");
     }
     Ok(())
 }

@@ -1,6 +1,6 @@
 //! Stores that are cut and changed: the reader, an `info` and a frame say the same of them.
 use crate::changes::{below, changed, next};
-use crate::runs::{STORE, TILE, run};
+use memory_runs::{STORE, TILE, run};
 use std::alloc::{AllocError, Global};
 use std::test::Fail;
 use std::thread::Threads;
@@ -67,14 +67,14 @@ fn agree<R: Threads + Sync + AllocGlobal>(rt: &R, bytes: &[u8]) -> Result<bool, 
     let files = [("a.gct", bytes)];
     let left = run(rt, &["info", "a.gct"], &files)?;
     let told = left.status == if said.is_store { 0 } else { 2 }
-        && left.sink.bytes() == said.info.as_bytes()
-        && left.shelf.file("o").is_none()
-        && left.shelf.file("a.gct") == Some(bytes);
+        && left.log() == said.info.as_bytes()
+        && left.file("o").is_none()
+        && left.file("a.gct") == Some(bytes);
     let left = run(rt, &["frame", "4", "2", "1", "1", "o", "a.gct"], &files)?;
     let drawn = left.status == if said.is_drawn { 0 } else { 2 }
-        && left.sink.bytes() == said.frame.as_bytes()
-        && left.shelf.file("o").is_some() == said.is_drawn
-        && left.shelf.file("a.gct") == Some(bytes);
+        && left.log() == said.frame.as_bytes()
+        && left.file("o").is_some() == said.is_drawn
+        && left.file("a.gct") == Some(bytes);
     Ok(told && drawn)
 }
 

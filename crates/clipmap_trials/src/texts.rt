@@ -1,6 +1,6 @@
 //! Texts of frames that are cut and changed, under `check`.
 use crate::changes::changed;
-use crate::runs::{TILE, lines, run};
+use memory_runs::{TILE, lines, run};
 use std::test::Fail;
 use std::thread::Threads;
 
@@ -47,8 +47,8 @@ fn end_of(status: u8, output: &[u8]) -> Option<End> {
 // How a `check` of the text ends, which is to leave it as it was and to put nothing.
 fn judged<R: Threads + Sync + AllocGlobal>(rt: &R, text: &[u8]) -> Result<Option<End>, Fail> {
     let left = run(rt, &["check", "a.obj"], &[("a.obj", text)])?;
-    let stands = left.shelf.file("a.obj") == Some(text) && left.shelf.file("o").is_none();
-    let end = end_of(left.status, left.sink.bytes());
+    let stands = left.file("a.obj") == Some(text) && left.file("o").is_none();
+    let end = end_of(left.status, left.log());
     Ok(if stands { end } else { None })
 }
 

@@ -1,6 +1,6 @@
 //! Files of every short length as tiles.
 use crate::changes::{below, next};
-use crate::runs::{TILE, run};
+use memory_runs::{TILE, run};
 
 // The side of the square tile of so many bytes, up to 200 of them, if there is one.
 fn side_of(length: usize) -> Option<&'static str> {
@@ -34,16 +34,13 @@ fn files_of_every_length(rt: HostRuntime) {
             let left = run(&rt, words, &files).expect(&rt, "memory");
             if let Some(side) = side_of(length) {
                 assert_eq!(rt; left.status, 0, "{length}");
-                assert_eq!(rt; left.shelf.file("o").is_some(), puts, "{length}");
+                assert_eq!(rt; left.file("o").is_some(), puts, "{length}");
                 let head = format!(in alloc; "terrain {side} {side}\n").expect(&rt, "memory");
-                assert!(rt;
-                    puts || left.sink.bytes().starts_with(head.as_bytes()),
-                    "{length}"
-                );
+                assert!(rt; puts || left.log().starts_with(head.as_bytes()), "{length}");
             } else {
                 assert!(rt; left.is_refused(refusal.as_bytes()), "{length}");
             }
-            assert!(rt; left.shelf.file(TILE) == Some(bytes.as_slice()), "{length}");
+            assert!(rt; left.file(TILE) == Some(bytes.as_slice()), "{length}");
         }
         seed = next(seed);
         bytes.push(below(seed, 256) as u8).expect(&rt, "memory");

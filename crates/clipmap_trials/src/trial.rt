@@ -1,6 +1,7 @@
 //! A run with each call of the shelf and of the sink failing in turn: what stands, and that no further call is made.
-use crate::runs::{Left, run, run_failing};
+use memory_runs::{Left, run, run_failing};
 use std::alloc::{AllocError, Global};
+use std::process::Abort;
 use std::test::Fail;
 use std::thread::Threads;
 
@@ -46,11 +47,11 @@ fn others_stay(left: &Left, trial: &Trial<'_>) -> bool {
     let mut passed = true;
     for (name, bytes) in trial.files {
         let is_put = trial.acts.iter().any(|act| act.0 == *name);
-        passed &= is_put || left.shelf.file(name) == Some(*bytes);
+        passed &= is_put || left.file(name) == Some(*bytes);
     }
     for name in OUTS {
         let is_put = trial.acts.iter().any(|act| act.0 == name);
-        passed &= is_put || left.shelf.file(name) == before(trial.files, name);
+        passed &= is_put || left.file(name) == before(trial.files, name);
     }
     passed
 }
@@ -58,7 +59,7 @@ fn others_stay(left: &Left, trial: &Trial<'_>) -> bool {
 // Whether so many puts were done and so many lines written of a run, and nothing else. The whole run has each file
 // that is put.
 fn stands(left: &Left, whole: &Left, trial: &Trial<'_>, puts: usize, lines: usize) -> bool {
-    let mut rest = left.sink.bytes();
+    let mut rest = left.log();
     let mut done = 0usize;
     let mut passed = true;
     for (number, act) in trial.acts.iter().enumerate() {
@@ -69,8 +70,8 @@ fn stands(left: &Left, whole: &Left, trial: &Trial<'_>, puts: usize, lines: usiz
         }
         if !name.is_empty() {
             let old = before(trial.files, name);
-            let new = whole.shelf.file(name);
-            passed &= new != old && left.shelf.file(name) == if done < puts { new } else { old };
+            let new = whole.file(name);
+            passed &= new != old && left.file(name) == if done < puts { new } else { old };
             done = done.saturating_add(1);
         }
     }
@@ -145,4 +146,27 @@ pub(crate) fn words_of<'a>(alloc: Global, line: &'a str) -> Result<Vec<&'a str>,
         words.push(word)?;
     }
     Ok(words)
+}
+
+// A line of words, how often its run fetches, its status where no call fails, and what it then does.
+pub(crate) type Row<'a> = (&'a str, usize, u8, &'a [Act<'a>]);
+
+// Tries each line of a table over these files.
+pub(crate) fn try_each<R: Threads + Sync + AllocGlobal + Abort>(
+    rt: &R,
+    files: &[(&str, &[u8])],
+    table: &[Row<'_>],
+) -> Result<(), Fail> {
+    for (line, fetches, status, acts) in table {
+        let words = words_of(rt.alloc(), line)?;
+        let trial = Trial {
+            words: words.as_slice(),
+            files,
+            fetches: *fetches,
+            status: *status,
+            acts,
+        };
+        assert!(rt; tried(rt, &trial)?, "{line}");
+    }
+    Ok(())
 }

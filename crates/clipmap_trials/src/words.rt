@@ -1,6 +1,6 @@
 //! Faulty words of a command line.
-use crate::runs::{NINE, TILE, run_failing, shelf_of};
 use clipmap_prog::run_program;
+use memory_runs::{NINE, TILE, run_failing, shelf_of};
 use outer_shelf::MemorySink;
 use std::io;
 use std::process::Termination;
@@ -42,7 +42,7 @@ fn changed<'a>(place: usize, word: &'a str) -> [&'a str; 7] {
 // Whether the words are answered as faulty, with nothing fetched: the first call of the shelf would fail.
 fn are_faulty<R: Threads + Sync + AllocGlobal>(rt: &R, words: &[&str]) -> bool {
     match run_failing(rt, words, &[(TILE, &NINE)], &[0], &[]) {
-        Ok(left) => left.status == 1 && left.sink.bytes() == b"fault: words\n".as_slice(),
+        Ok(left) => left.status == 1 && left.log() == b"fault: words\n".as_slice(),
         Err(_) => false,
     }
 }
