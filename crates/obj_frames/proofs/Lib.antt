@@ -1,5 +1,5 @@
 pub mod Appended
 pub mod Levels
 pub mod Samples
-pub mod Digits
+pub mod Pieces
 pub mod Renumbered

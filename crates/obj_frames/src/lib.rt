@@ -5,6 +5,7 @@
 //! [`seen_text`] prints some parts of it, those that a view keeps.
 #![tactic(auto)]
 
+mod line;
 mod lines;
 mod memory;
 mod mesh;

@@ -1,11 +1,11 @@
 //! The lines of a frame's text, each appended to one growing buffer.
 
-ghost use Rattle.std.specs.Prelude.{◌≡◌, ◌+◌, ◌*◌, ◌<◌, ◌++◌, OnOk, List, decimal, true, ◌↔◌};
+ghost use Rattle.std.specs.Prelude.{◌≡◌, ◌++◌, OnOk, decimal};
 ghost use Rattle.std.specs.Fmt.{signed_decimal};
-ghost use Rattle.mesh_model.specs.Text.{frame_line, viewer_line, level_line, region_text, sign_text, five_digits, height_text, vertex_line, triangle_line};
+ghost use Rattle.mesh_model.specs.Text.{frame_line, viewer_line, level_line, region_text, vertex_line, triangle_line};
 ghost use Rattle.mesh_model.specs.Seen.{kept_line};
-ghost use Rattle.obj_frames.specs.Digits.{HasSix, numbers_line, six_digits, three_digits};
 
+use crate::line::{ROOM, write_triangle, write_vertex};
 use crate::memory::NoMemory;
 use clip_regions::Region;
 use itoa::Buffer;
@@ -33,135 +33,28 @@ fn append_signed(text: &mut Vec<u8>, digits: &mut Buffer, number: i32) -> Result
     append(text, digits.format(number).as_bytes())
 }
 
-// The five digits of a number below 100,000.
-fn digits_of(number: u32) -> [u8; 5]
-    requires { number < 100000 }
-    ensures { result ≡ five_digits number }
-{
-    [
-        b'0' + (number / 10000) as u8,
-        b'0' + (number / 1000 % 10) as u8,
-        b'0' + (number / 100 % 10) as u8,
-        b'0' + (number / 10 % 10) as u8,
-        b'0' + (number % 10) as u8,
-    ]
-}
-
-// `-` before a negative number.
-fn sign_of(number: i32) -> &'static [u8]
-    ensures { result.now ≡ sign_text number }
-{
-    if number < 0 { b"-" } else { b"" }
-}
-
-// Appends a height in metres, given in thirty-seconds of a metre.
-fn append_height(text: &mut Vec<u8>, digits: &mut Buffer, height: i32) -> Result<(), NoMemory>
-    ensures { OnOk result (text.new.items ≡ text.old.items ++ height_text height) }
-{
-    let size = height.unsigned_abs();
-    append(text, sign_of(height))?;
-    append_number(text, digits, u64::from(size / 32))?;
-    append(text, b".")?;
-    append(text, &digits_of(size % 32 * 3125))
-}
-
-// Appends the line of a vertex.
+// Appends the line of a vertex, written in an array that is used again.
 pub(crate) fn append_vertex(
     text: &mut Vec<u8>,
-    digits: &mut Buffer,
+    line: &mut [u8; ROOM],
     vertex: &Vertex,
 ) -> Result<(), NoMemory>
     ensures { OnOk result (text.new.items ≡ text.old.items ++ vertex_line vertex.now) }
 {
-    append(text, b"v ")?;
-    append_signed(text, digits, vertex.x)?;
-    append(text, b" ")?;
-    append_height(text, digits, vertex.height)?;
-    append(text, b" ")?;
-    append_signed(text, digits, vertex.z)?;
-    append(text, b"\n")
+    let start = write_vertex(line, vertex);
+    append(text, &line[start..])
 }
 
-// The three digits of a number below 1000.
-fn three_digits(number: u32) -> [u8; 3]
-    requires { number < 1000 }
-    ensures { result ≡ three_digits number }
-{
-    let rest = number % 100;
-    [
-        b'0' + (number / 100) as u8,
-        b'0' + (rest / 10) as u8,
-        b'0' + (rest % 10) as u8,
-    ]
-}
-
-// The six digits of a number that has so many.
-fn six_digits(number: u64) -> [u8; 6]
-    requires { HasSix number }
-    ensures { result ≡ six_digits number }
-{
-    let [a, b, c] = three_digits((number / 1000) as u32);
-    let [d, e, f] = three_digits((number % 1000) as u32);
-    [a, b, c, d, e, f]
-}
-
-// Whether a number has six digits.
-fn has_six(number: u64) -> bool
-    ensures { result ≡ true ↔ HasSix number }
-{
-    100_000 <= number && number < 1_000_000
-}
-
-// The line of a triangle whose three numbers have six digits each.
-fn long_line(first: u64, second: u64, third: u64) -> [u8; 23]
-    requires first { HasSix first }
-    requires second { HasSix second }
-    requires third { HasSix third }
-    ensures { result ≡ numbers_line first second third }
-{
-    let [a, b, c, d, e, f] = six_digits(first);
-    let [g, h, i, j, k, l] = six_digits(second);
-    let [m, n, o, p, q, r] = six_digits(third);
-    [
-        b'f', b' ', a, b, c, d, e, f, b' ', g, h, i, j, k, l, b' ', m, n, o, p, q, r, b'\n',
-    ]
-}
-
-// Appends the line of a triangle whose vertices have these numbers, piece by piece.
-fn append_numbers(
-    text: &mut Vec<u8>,
-    digits: &mut Buffer,
-    first: u64,
-    second: u64,
-    third: u64,
-) -> Result<(), NoMemory>
-    ensures { OnOk result (text.new.items ≡ text.old.items ++ numbers_line first second third) }
-{
-    append(text, b"f ")?;
-    append_number(text, digits, first)?;
-    append(text, b" ")?;
-    append_number(text, digits, second)?;
-    append(text, b" ")?;
-    append_number(text, digits, third)?;
-    append(text, b"\n")
-}
-
-// Appends the line of a triangle, at once where its numbers have six digits each, as most of a large mesh have.
-#[tactic(auto, unfolding(mesh_model::specs::Text::triangle_line, crate::specs::Digits::numbers_line))]
+// Appends the line of a triangle, written in an array that is used again.
 pub(crate) fn append_triangle(
     text: &mut Vec<u8>,
-    digits: &mut Buffer,
+    line: &mut [u8; ROOM],
     triangle: &[u32; 3],
 ) -> Result<(), NoMemory>
     ensures { OnOk result (text.new.items ≡ text.old.items ++ triangle_line triangle.now) }
 {
-    let first = u64::from(triangle[0]) + 1;
-    let second = u64::from(triangle[1]) + 1;
-    let third = u64::from(triangle[2]) + 1;
-    if has_six(first) && has_six(second) && has_six(third) {
-        return append(text, &long_line(first, second, third));
-    }
-    append_numbers(text, digits, first, second, third)
+    let start = write_triangle(line, triangle);
+    append(text, &line[start..])
 }
 
 // Appends the line of the frame's number.

@@ -3,6 +3,7 @@
 ghost use Rattle.std.specs.Prelude.{◌≡◌, ◌++◌, IfOk, OnOk, flat_map};
 ghost use Rattle.mesh_model.specs.Text.{head_text, level_lines, vertex_line, triangle_line, frame_text};
 
+use crate::line::ROOM;
 use crate::lines::{append_frame, append_level, append_triangle, append_vertex, append_viewer};
 use crate::memory::NoMemory;
 use crate::mesh::Mesh;
@@ -49,9 +50,9 @@ pub fn append_head(text: &mut Vec<u8>, header: &Header) -> Result<(), NoMemory>
 pub fn append_vertices(text: &mut Vec<u8>, vertices: &[Vertex]) -> Result<(), NoMemory>
     ensures { OnOk result (text.new.items ≡ text.old.items ++ flat_map vertex_line vertices.now) }
 {
-    let mut digits = Buffer::new();
+    let mut line = [0; ROOM];
     for vertex in vertices {
-        append_vertex(text, &mut digits, vertex)?;
+        append_vertex(text, &mut line, vertex)?;
     }
     Ok(())
 }
@@ -60,9 +61,9 @@ pub fn append_vertices(text: &mut Vec<u8>, vertices: &[Vertex]) -> Result<(), No
 pub fn append_triangles(text: &mut Vec<u8>, triangles: &[[u32; 3]]) -> Result<(), NoMemory>
     ensures { OnOk result (text.new.items ≡ text.old.items ++ flat_map triangle_line triangles.now) }
 {
-    let mut digits = Buffer::new();
+    let mut line = [0; ROOM];
     for triangle in triangles {
-        append_triangle(text, &mut digits, triangle)?;
+        append_triangle(text, &mut line, triangle)?;
     }
     Ok(())
 }

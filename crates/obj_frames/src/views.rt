@@ -8,6 +8,7 @@ ghost use Rattle.mesh_model.specs.Text.{vertex_line, triangle_line};
 ghost use Rattle.mesh_model.specs.Seen.{is_kept, flagged_parts, triangles_of_parts, named_places, new_place, seen_vertices, seen_triangles, parts_text, seen_text};
 ghost use Rattle.obj_frames.specs.Renumbering.{marked, mark_at, vertex_lines, numbered};
 
+use crate::line::ROOM;
 use crate::lines::{append_kept, append_triangle, append_vertex};
 use crate::memory::NoMemory;
 use crate::mesh::Mesh;
@@ -100,7 +101,7 @@ fn mark_all(alloc: Global, triangles: &[[u32; 3]], count: usize) -> Result<Vec<u
 // Appends the line of a vertex where the triangles have it, and gives the number of the next one.
 fn append_named(
     text: &mut Vec<u8>,
-    digits: &mut Buffer,
+    line: &mut [u8; ROOM],
     vertex: &Vertex,
     is_named: bool,
     number: u32,
@@ -110,7 +111,7 @@ fn append_named(
     ensures next { IfOk result (λ next. next ≡ number + (if is_named then 1 else 0)) }
 {
     if is_named {
-        append_vertex(text, digits, vertex)?;
+        append_vertex(text, line, vertex)?;
         return Ok(number + 1);
     }
     Ok(number)
@@ -120,7 +121,7 @@ fn append_named(
 fn append_vertices(
     alloc: Global,
     text: &mut Vec<u8>,
-    digits: &mut Buffer,
+    line: &mut [u8; ROOM],
     vertices: &[Vertex],
     triangles: &[[u32; 3]],
 ) -> Result<Numbers, NoMemory>
@@ -138,7 +139,7 @@ fn append_vertices(
     for place in 0..vertices.len() {
         let is_named = table[place] == 1;
         table[place] = taken;
-        taken = append_named(text, digits, &vertices[place], is_named, taken)?;
+        taken = append_named(text, line, &vertices[place], is_named, taken)?;
     }
     Ok(Numbers { table, taken })
 }
@@ -158,7 +159,7 @@ fn renumbered(triangle: &[u32; 3], table: &[u32]) -> [u32; 3]
 // Appends the lines of triangles whose places are numbered anew.
 fn append_triangles(
     text: &mut Vec<u8>,
-    digits: &mut Buffer,
+    line: &mut [u8; ROOM],
     triangles: &[[u32; 3]],
     table: &[u32],
 ) -> Result<(), NoMemory>
@@ -167,7 +168,7 @@ fn append_triangles(
         ++ flat_map (λ triangle. triangle_line (map (numbered table.now) triangle)) triangles.now) }
 {
     for triangle in triangles {
-        append_triangle(text, digits, &renumbered(triangle, table))?;
+        append_triangle(text, line, &renumbered(triangle, table))?;
     }
     Ok(())
 }
@@ -193,16 +194,17 @@ pub fn cull(alloc: Global, mesh: &Mesh, header: &Header, keep: &[bool]) -> Resul
     let all = mesh.parts().len() as u64;
     append_head(&mut text, header)?;
     append_kept(&mut text, &mut digits, kept.parts as u64, all)?;
+    let mut line = [0; ROOM];
     let numbers = append_vertices(
         alloc,
         &mut text,
-        &mut digits,
+        &mut line,
         mesh.vertices(),
         kept.triangles.as_slice(),
     )?;
     append_triangles(
         &mut text,
-        &mut digits,
+        &mut line,
         kept.triangles.as_slice(),
         numbers.table.as_slice(),
     )?;

@@ -1,9 +1,0 @@
--- The pieces of the line, one after another.
-use Rattle.std.proofs.Common.{rules, append_assoc}
-use Rattle.std.proofs.lemmas.Result.{IfOk-equal}
-use Rattle.obj_frames.specs.Digits.{numbers_line}
-use Rattle.obj_frames.proofs.lines.append_numbers.Goals as goal
-
-pub returns : goal.returns
-unfolding numbers_line
-returns c = search (rules, IfOk-equal, append_assoc)
