@@ -1,8 +1,9 @@
 -- Boxes round vertices, one vertex after another.
-use Rattle.std.specs.Prelude.{pos, List, [], ◌∷◌}
+use Rattle.std.specs.Prelude.{◌≡◌, ℕ, List, [], ◌∷◌, slice_index}
 use Rattle.std.specs.Int.{int_min, int_max}
 use Rattle.mesh_model.specs.declared.shapes.Vertex.{Vertex}
 use Rattle.mesh_model.specs.declared.shapes.Bounds.{Bounds}
+use Rattle.mesh_model.specs.Vertices.{vertex_of_place}
 
 -- the box of one vertex
 abbrev pub point_box : Vertex → Bounds
@@ -24,7 +25,12 @@ abbrev pub widest : Bounds → List Vertex → Bounds
 widest box [] = box
 widest box (v ∷ vertices) = widest (wider box v) vertices
 
--- the box of the first of some vertices, or that of the origin where there is none
-abbrev pub first_box : List Vertex → Bounds
-first_box [] = record { x0 = pos 0; x1 = pos 0; z0 = pos 0; z1 = pos 0; low = pos 0; high = pos 0 }
-first_box (v ∷ vertices) = point_box v
+-- the box holds the vertex with this place
+abbrev pub Holds : Bounds → List Vertex → ℕ → Type 0
+Holds box vertices place = wider box (vertex_of_place vertices place) ≡ box
+
+-- the box holds the vertices of a triangle
+pub record HoldsCorners (box : Bounds) (vertices : List Vertex) (triangle : List ℕ) : Type 0 where
+  pub first : Holds box vertices (slice_index triangle 0)
+  pub second : Holds box vertices (slice_index triangle 1)
+  pub third : Holds box vertices (slice_index triangle 2)

@@ -1,9 +1,9 @@
 //! The bounds of a part.
 
-ghost use Rattle.std.specs.Prelude.{◌≡◌, map, pos, get_or};
+ghost use Rattle.std.specs.Prelude.{◌≡◌, map, pos};
 ghost use Rattle.mesh_model.specs.Mesh.{vertices_of, bounds_of};
 ghost use Rattle.mesh_model.specs.Vertices.{vertex_of_place};
-ghost use Rattle.ring_mesh.specs.Boxes.{point_box, wider, widest, first_box};
+ghost use Rattle.ring_mesh.specs.Boxes.{point_box, wider, widest, Holds, HoldsCorners};
 
 use obj_frames::{Bounds, Vertex};
 
@@ -50,31 +50,41 @@ fn widened(bounds: Bounds, vertex: &Vertex) -> Bounds
     }
 }
 
-// The least box that holds a box and the vertices with these places.
-fn widened_by(mut bounds: Bounds, vertices: &[Vertex], places: &[u32]) -> Bounds
-    ensures { result ≡ widest bounds (map (vertex_of_place vertices.now) places.now) }
+// The least box that holds a box and the vertex with this place, where the box holds those with two other places.
+fn widened_unless(bounds: Bounds, vertices: &[Vertex], place: u32, one: u32, two: u32) -> Bounds
+    requires one { Holds bounds vertices.now one }
+    requires two { Holds bounds vertices.now two }
+    ensures { result ≡ wider bounds (vertex_of_place vertices.now place) }
 {
-    for place in places {
-        bounds = widened(bounds, &vertex_named(vertices, *place));
+    if place == one || place == two {
+        return bounds;
     }
-    bounds
+    widened(bounds, &vertex_named(vertices, place))
 }
 
-// The box of the first vertex of some triangles, or that of the origin where there is none.
-fn first_box(vertices: &[Vertex], triangles: &[[u32; 3]]) -> Bounds
-    ensures { result ≡ first_box (vertices_of vertices.now triangles.now) }
+// The least box that holds a box and the vertices of a triangle, where the box holds those of the triangle before. One
+// square's triangles have two of their vertices in common, and so have the nearest triangles of two squares in a row.
+fn widened_by(bounds: Bounds, vertices: &[Vertex], before: &[u32; 3], triangle: &[u32; 3]) -> Bounds
+    requires { HoldsCorners bounds vertices.now before.now }
+    ensures { result ≡ widest bounds (map (vertex_of_place vertices.now) triangle.now) }
 {
-    if triangles.is_empty() {
-        return Bounds {
-            x0: 0,
-            x1: 0,
-            z0: 0,
-            z1: 0,
-            low: 0,
-            high: 0,
-        };
+    let first = widened_unless(bounds, vertices, triangle[0], before[0], before[2]);
+    let second = widened_unless(first, vertices, triangle[1], before[1], before[2]);
+    widened(second, &vertex_named(vertices, triangle[2]))
+}
+
+// The box of no vertex.
+fn no_box() -> Bounds
+    ensures { result ≡ record { x0 = pos 0; x1 = pos 0; z0 = pos 0; z1 = pos 0; low = pos 0; high = pos 0 } }
+{
+    Bounds {
+        x0: 0,
+        x1: 0,
+        z0: 0,
+        z1: 0,
+        low: 0,
+        high: 0,
     }
-    point(&vertex_named(vertices, triangles[0][0]))
 }
 
 /// The least and greatest column, row and height of the vertices of some triangles, all 0 where there is
@@ -82,9 +92,15 @@ fn first_box(vertices: &[Vertex], triangles: &[[u32; 3]]) -> Bounds
 pub fn bounds_of(vertices: &[Vertex], triangles: &[[u32; 3]]) -> Bounds
     ensures value { result ≡ bounds_of (vertices_of vertices.now triangles.now) }
 {
-    let mut bounds = first_box(vertices, triangles);
+    if triangles.is_empty() {
+        return no_box();
+    }
+    let first = triangles[0][0];
+    let mut bounds = point(&vertex_named(vertices, first));
+    let mut before = [first, first, first];
     for triangle in triangles {
-        bounds = widened_by(bounds, vertices, triangle);
+        bounds = widened_by(bounds, vertices, &before, triangle);
+        before = *triangle;
     }
     bounds
 }
