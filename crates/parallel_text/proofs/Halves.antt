@@ -1,5 +1,5 @@
 -- The lines of two parts are those of the whole.
-use Rattle.std.proofs.Common.{◌≡◌, List, ℕ, [], ◌++◌, flat_map, ap, sym, ◌∙◌, refl, append_assoc, append-nil}
+use Rattle.std.proofs.Common.{◌≡◌, List, ℕ, [], ◌++◌, flat_map, ap, sym, ◌∙◌, append_assoc, append-nil}
 use Rattle.std.proofs.lemmas.Grind.{flat_map-append}
 use Rattle.mesh_model.specs.declared.shapes.Vertex.{Vertex}
 use Rattle.mesh_model.specs.Text.{vertex_line, triangle_line}

@@ -1,11 +1,12 @@
 //! The text of a frame by several threads.
 
-ghost use Rattle.std.specs.Prelude.{◌≡◌, ◌++◌, ◌<◌, ◌≤◌, IfOk, []};
+ghost use Rattle.std.specs.Prelude.{◌≡◌, ◌++◌, ◌<◌, ◌≤◌, IfOk, [], flat_map};
 ghost use Rattle.std.specs.Thread.{IsSync};
 ghost use Rattle.mesh_model.specs.Text.{frame_text};
 ghost use Rattle.parallel_text.specs.Lines.{lines_text};
 
 use crate::lines::{Lines, append, count, halves};
+use crate::texts::{Texts, followed, joined};
 use obj_frames::{Header, Mesh, NoMemory, append_head};
 use std::alloc::Global;
 use std::thread::{Threads, available_parallelism, join};
@@ -13,8 +14,9 @@ use std::thread::{Threads, available_parallelism, join};
 // How many bytes a line has, a little more than most.
 const LINE: usize = 26;
 
-// Fewer lines than these are printed by one thread, since a thread's start takes as long as some hundred lines.
-const FEW: usize = 16384;
+// Fewer lines than these are printed by one thread: it takes a millisecond or two, and the threads' start as long as
+// some thousand lines.
+const FEW: usize = 65536;
 
 // How often the lines are halved: not for a few lines, and else for about twice as many parts as there are processors.
 fn depth_for<R: Threads>(rt: &R, lines: usize) -> u8
@@ -34,37 +36,35 @@ fn depth_for<R: Threads>(rt: &R, lines: usize) -> u8
     }
 }
 
-// A new text with room for these lines.
-fn room_for(alloc: Global, lines: &Lines<'_>) -> Result<Vec<u8>, NoMemory>
-    ensures { IfOk result (λ text. text.items ≡ []) }
-{
-    let text = Vec::with_capacity(alloc, count(lines).saturating_mul(LINE))?;
-    Ok(text)
-}
-
-// Appends lines to a text, halved so often, the halves side by side.
-fn appended<R: Threads + Sync>(
+// Appends lines to a text, halved so often, the halves side by side. All but the first of the parts are texts of their
+// own.
+fn printed<R: Threads + Sync>(
     rt: &R,
     alloc: Global,
     mut text: Vec<u8>,
     lines: Lines<'_>,
     depth: u8,
-) -> Result<Vec<u8>, NoMemory>
-    ensures { IfOk result (λ new. new.items
+) -> Result<Texts, NoMemory>
+    ensures { IfOk result (λ new. new.first.items ++ flat_map (λ other. other.items) new.others.items
         ≡ text.items ++ lines_text lines.entry.vertices.now lines.entry.triangles.now) }
 {
     if depth == 0 {
+        text.reserve(count(&lines).saturating_mul(LINE))?;
         append(&mut text, &lines)?;
-        return Ok(text);
+        return Ok(Texts {
+            first: text,
+            others: Vec::new(alloc),
+        });
     }
     let (front, back) = halves(&lines);
-    let rest = room_for(alloc, &back)?;
+    let rest = Vec::new(alloc);
     let (vertices, triangles) = (back.vertices, back.triangles);
-    let theirs = move || -> Result<Vec<u8>, NoMemory>
+    let theirs = move || -> Result<Texts, NoMemory>
         requires { IsSync R.row × (0 < depth) × (rest.items ≡ []) }
-        ensures { IfOk result (λ new. new.items ≡ lines_text vertices.entry.now triangles.entry.now) }
+        ensures { IfOk result (λ new. new.first.items ++ flat_map (λ other. other.items) new.others.items
+            ≡ lines_text vertices.entry.now triangles.entry.now) }
     {
-        appended(
+        printed(
             rt,
             alloc,
             rest,
@@ -76,11 +76,12 @@ fn appended<R: Threads + Sync>(
         )
     };
     let (vertices, triangles) = (front.vertices, front.triangles);
-    let mine = move || -> Result<Vec<u8>, NoMemory>
+    let mine = move || -> Result<Texts, NoMemory>
         requires { IsSync R.row × (0 < depth) }
-        ensures { IfOk result (λ new. new.items ≡ text.items ++ lines_text vertices.entry.now triangles.entry.now) }
+        ensures { IfOk result (λ new. new.first.items ++ flat_map (λ other. other.items) new.others.items
+            ≡ text.items ++ lines_text vertices.entry.now triangles.entry.now) }
     {
-        appended(
+        printed(
             rt,
             alloc,
             text,
@@ -92,9 +93,8 @@ fn appended<R: Threads + Sync>(
         )
     };
     let (behind, before) = join(rt, theirs, mine);
-    let mut text = before?;
-    text.extend_from_slice(behind?.as_slice())?;
-    Ok(text)
+    let texts = followed(before?, behind?)?;
+    Ok(texts)
 }
 
 /// The text of a frame: that of `obj_frames::frame_text`, printed by as many threads as pay on this machine.
@@ -117,5 +117,7 @@ pub fn frame_text_beside<R: Threads + Sync>(
     text.clear();
     append_head(&mut text, header)?;
     text.reserve(count(&lines).saturating_mul(LINE))?;
-    appended(rt, alloc, text, lines, depth_for(rt, count(&lines)))
+    let texts = printed(rt, alloc, text, lines, depth_for(rt, count(&lines)))?;
+    let text = joined(texts)?;
+    Ok(text)
 }

@@ -1,4 +1,4 @@
-use Rattle.std.proofs.Common.{◌≡◌, take, drop, ◌++◌, ◌∙◌, ap, sym, length, le_refl, refl, take-append-drop, arith}
+use Rattle.std.proofs.Common.{◌++◌, ◌∙◌, length, le_refl, refl, take-append-drop}
 use Rattle.std.proofs.lemmas.List.{drop_all}
 use mathlib.Core.Path.{ap₂}
 use Rattle.parallel_text.proofs.lines.halves.Goals as goal
