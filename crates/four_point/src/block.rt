@@ -1,6 +1,6 @@
 //! The predictions of all cells of a block, with each sum made once.
 
-ghost use Rattle.std.specs.Prelude.{◌≡◌, ◌^◌, ◌<◌, ◌*◌, ℕ, pos, neg_ℤ, ◌+ℤ◌, ◌-ℤ◌, ◌*ℤ◌, ◌≤ℤ◌, ◌<ℤ◌};
+ghost use Rattle.std.specs.Prelude.{◌≡◌, ◌^◌, ◌<◌, ◌*◌, ℕ, pos, neg_ℤ, ◌+ℤ◌, ◌-ℤ◌, ◌*ℤ◌, ◌≤ℤ◌, ◌<ℤ◌, slice_index_or};
 ghost use Rattle.four_point.specs.Prediction.{weighted, prediction};
 ghost use Rattle.four_point.specs.Patches.{patch_height, IsOfBlock, IsAtMost};
 ghost use Rattle.four_point.specs.Steps.{IsStep, code_of, value_of};
@@ -206,6 +206,18 @@ impl BlockPredictions<'_> {
         let a = place_in(self.patch.i0, i);
         let b = place_in(self.patch.j0, j);
         self.cells[b][a]
+    }
+
+    /// The predictions of the eight cells of row `j` of the block, from its first column on, in metres.
+    #[inline]
+    pub fn row(&self, j: i32) -> [i32; 8]
+        requires row { IsOfBlock self.now.patch.now.j0 j }
+        ensures values { (a : ℕ) → a < 8 → slice_index_or result a (pos 0) ≡
+            prediction (patch_height self.now.patch.now) (first_cell self.now.patch.now.i0 +ℤ pos a) j }
+        ensures sizes { AreSmall result }
+    {
+        let down = place_in(self.patch.j0, j);
+        self.cells[down]
     }
 
     // How far the height at cell (`i`, `j`) of the block lies above its prediction, in metres.

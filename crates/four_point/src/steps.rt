@@ -52,7 +52,8 @@ pub fn value_by(patch: &Patch, i: i32, j: i32, code: i32, step: u8) -> i32
     predict(patch, i, j) + steps_of(code, step)
 }
 
-// So many steps, in metres.
+/// So many steps, in metres.
+#[inline]
 pub(crate) fn steps_of(code: i32, step: u8) -> i32
     requires low { neg_ℤ (pos (2 ^ 17)) ≤ℤ code }
     requires high { code <ℤ pos (2 ^ 17) }
@@ -64,6 +65,7 @@ pub(crate) fn steps_of(code: i32, step: u8) -> i32
 }
 
 /// The nearest height of 16 bits, -32768 to 32767.
+#[inline]
 #[tactic(auto, unfolding(crate::specs::Steps::brought))]
 pub fn bring(value: i32) -> i16
     ensures value { result ≡ brought value }
