@@ -1,8 +1,8 @@
 #!/usr/bin/env bash
-# Times the built program on `pack 12` of a made tile of 3601 x 3601 samples and on `info` of its store, in several
-# runs. With PLAIN=PROGRAM another program is timed on the same words in alternating runs, and the ratio printed; its
-# store has to be the same, byte for byte. With HGT tiles as arguments it prints how many bytes a sample their stores
-# take instead, beside the HGT file and, where gdal_translate is there, beside compressed GeoTIFF files.
+# Times the built program on `pack 12` of a made tile of 3601 x 3601 samples and on `info` of its store, in runs in turn
+# with a plain Rust program (bench/plain_store.rs, built by rustc -O, or PLAIN=PROGRAM), whose store and lines have to be
+# the same, byte for byte. With HGT tiles as arguments it prints how many bytes a sample their stores take instead,
+# beside the HGT file and, where gdal_translate is there, beside compressed GeoTIFF files.
 set -eu
 top=$(cd "$(dirname "${BASH_SOURCE[0]}")/.." && pwd)
 runs=${RUNS:-9}
@@ -59,6 +59,12 @@ PY
     exit
 fi
 
+plain=${PLAIN:-}
+if [ -z "$plain" ]; then
+    rustc --edition 2021 -O "$top/bench/plain_store.rs" -o plain_store
+    plain=$work/plain_store
+fi
+
 # A tile of hills: the sample at column x and row y, as 16-bit big-endian numbers.
 python3 - <<'PY'
 import array, math, sys
@@ -74,7 +80,7 @@ PY
 # Times words of this program and of the plain one, in alternating runs, and prints a row: the medians of their processor
 # time, user and system, which other work on the machine changes less than the time on the clock.
 row() {
-    python3 - "$runs" "$program" "${PLAIN:-}" "$@" <<'PY'
+    python3 - "$runs" "$program" "$plain" "$@" <<'PY'
 import resource, statistics, subprocess, sys
 runs, program, plain, words = int(sys.argv[1]), sys.argv[2], sys.argv[3], sys.argv[4:]
 def used():
@@ -86,19 +92,20 @@ def spent(name):
     return used() - begin
 times = {}
 for _ in range(runs):
-    for name in [program] + ([plain] if plain else []):
+    for name in (program, plain):
         times.setdefault(name, []).append(spent(name))
 ours = statistics.median(times[program])
-other = statistics.median(times[plain]) if plain else None
-print('| `%s` | %.3f | %s |' % (' '.join(words), ours, '%.3f | %.2f' % (other, ours / other) if plain else '- | -'))
+other = statistics.median(times[plain])
+print('| `%s` | %.3f | %.3f | %.2f |' % (' '.join(words), ours, other, ours / other))
 PY
 }
 
-if [ -n "${PLAIN:-}" ]; then
-    "$program" pack 12 ours.gct N00E000.hgt >/dev/null
-    "$PLAIN" pack 12 plain.gct N00E000.hgt >/dev/null
-    cmp ours.gct plain.gct
-fi
+"$program" pack 12 out.gct N00E000.hgt >ours.lines
+"$program" info out.gct >>ours.lines
+"$plain" pack 12 plain.gct N00E000.hgt >plain.lines
+"$plain" info plain.gct >>plain.lines
+cmp out.gct plain.gct
+cmp ours.lines plain.lines
 echo "| words | seconds | seconds of the plain program | ratio |"
 echo "|---|---|---|---|"
 row pack 12 out.gct N00E000.hgt
