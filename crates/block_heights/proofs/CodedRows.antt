@@ -1,5 +1,5 @@
 -- The coded columns of a region's rows, one more at a time, and tables that are filled row by row.
-use Rattle.std.proofs.Common.{◌≡◌, ℕ, zero, suc, ◌+◌, ◌-◌, ◌<◌, ◌≤◌, Bool, true, false, cond, List, [], ◌∷◌, ◌++◌, length, get_or, set, take, drop, map, filter, ℤ, pos, ◌+ℤ◌, All, sym, refl, ap, ap₂, ◌∙◌, subst, ⊎_elim, arith, append-nil, length-append, get_or-set_same, get_or-set_other}
+use Rattle.std.proofs.Common.{◌≡◌, ℕ, zero, suc, ◌+◌, ◌-◌, ◌<◌, ◌≤◌, Bool, true, false, cond, not, ◌&&◌, ◌==◌, ◌/◌, List, [], ◌∷◌, ◌++◌, length, get_or, set, take, drop, map, filter, ℤ, pos, ◌+ℤ◌, All, sym, refl, ap, ap₂, ◌∙◌, subst, ⊎_elim, arith, append-nil, length-append, get_or-set_same, get_or-set_other}
 use Rattle.std.specs.List.{flat_map, range_with_len}
 use Rattle.std.proofs.lemmas.Bool.{cases_lt, cases_eq, false≢true}
 use Rattle.std.proofs.lemmas.List.{map-id, map-append, take_more, length_push}
@@ -7,6 +7,8 @@ use Rattle.std.proofs.lemmas.List.Concat.{flat_map-append}
 use Rattle.std.proofs.lemmas.List.FromFn.{filter_of_map_range_with_len_more}
 use Rattle.clip_regions.specs.declared.region.Region.{Region}
 use Rattle.store_model.specs.Blocks.{is_coded}
+use Rattle.clip_regions.specs.FloorDivision.{floor_rem}
+use Rattle.clip_regions.proofs.Quotients.{rem_below, quotient_and_rest}
 use Rattle.block_heights.specs.Rows.{coded_columns, row_values, table_values, coded_before, IsCodeRow, HasCodes}
 use Rattle.rice_residuals.specs.Code.{IsResidual}
 use Rattle.std.proofs.lemmas.List.{set_past}
@@ -166,3 +168,77 @@ read_sum x y n e fits fits' =
 
 pub rest_length : (values : List ℤ) (n : ℕ) → n ≤ length values → length (take (length values - n) (drop n values)) ≡ length values - n
 rest_length values n h = ap length (take_rest values n) ∙ length-drop n values
+
+-- ---- how many codes a row has
+abbrev coded_at : Region → ℕ → ℕ → Bool
+coded_at region b a = is_coded (region.x0 +ℤ pos a) (region.y0 +ℤ pos b)
+
+abbrev one : Bool → ℕ
+one t = cond t 1 0
+
+length_of_one : (t : Bool) (n : ℕ) → length (cond t (n ∷ []) []) ≡ one t
+length_of_one true n = refl
+length_of_one false n = refl
+
+count_one : (region : Region) (b n : ℕ) → length (coded_columns region b (n + 1)) ≡ length (coded_columns region b n) + one (coded_at region b n)
+count_one region b n =
+    ap length (filter_range_more (coded_at region b) n)
+    ∙ length-append (coded_columns region b n) (cond (coded_at region b n) (n ∷ []) [])
+    ∙ ap (λ (m : ℕ). length (coded_columns region b n) + m) (length_of_one (coded_at region b n) n)
+
+rem_again : (i x : ℤ) → x ≡ i +ℤ pos 2 → floor_rem x 2 ≡ floor_rem i 2
+rem_again i x e =
+    let below : floor_rem x 2 < 2 = rem_below x 2 (omega arith) in
+    let below' : floor_rem i 2 < 2 = rem_below i 2 (omega arith) in
+    let whole = quotient_and_rest x 2 (omega arith) in
+    let whole' = quotient_and_rest i 2 (omega arith) in
+    omega (arith, ints, below, below', whole, whole', e)
+
+coded_again : (region : Region) (b n : ℕ) → coded_at region b (n + 2) ≡ coded_at region b n
+unfolding is_coded
+coded_again region b n =
+    ap (λ (m : ℕ). not ((m == 0) && (floor_rem (region.y0 +ℤ pos b) 2 == 0))) (rem_again (region.x0 +ℤ pos n) (region.x0 +ℤ pos (n + 2)) (omega (arith, ints)))
+
+two_coded : (region : Region) (b n : ℕ) → one (coded_at region b n) + one (coded_at region b (n + 1)) ≡ one (coded_at region b 0) + one (coded_at region b 1)
+two_coded region b zero = refl
+two_coded region b (suc n) =
+    let here : one (coded_at region b (suc n)) ≡ one (coded_at region b (n + 1)) = ap (λ (m : ℕ). one (coded_at region b m)) (omega arith) in
+    let next : one (coded_at region b (suc n + 1)) ≡ one (coded_at region b (n + 2)) = ap (λ (m : ℕ). one (coded_at region b m)) (omega arith) in
+    let again : one (coded_at region b (n + 2)) ≡ one (coded_at region b n) = ap one (coded_again region b n) in
+    let before = two_coded region b n in
+    omega (arith, here, next, again, before)
+
+parts_more : (s t : Bool) (n : ℕ) → cond s ((n + 2 + 1) / 2) 0 + cond t ((n + 2) / 2) 0 ≡ (cond s ((n + 1) / 2) 0 + cond t (n / 2) 0) + (one s + one t)
+parts_more true true n = omega arith
+parts_more true false n = omega arith
+parts_more false true n = omega arith
+parts_more false false n = omega arith
+
+parts_one : (s t : Bool) → one s ≡ cond s ((1 + 1) / 2) 0 + cond t (1 / 2) 0
+parts_one true true = refl
+parts_one true false = refl
+parts_one false true = refl
+parts_one false false = refl
+
+parts_none : (s t : Bool) → 0 ≡ cond s ((0 + 1) / 2) 0 + cond t (0 / 2) 0
+parts_none true true = refl
+parts_none true false = refl
+parts_none false true = refl
+parts_none false false = refl
+
+pub count_by_two : (region : Region) (b n : ℕ) → length (coded_columns region b n) ≡ cond (is_coded (region.x0 +ℤ pos 0) (region.y0 +ℤ pos b)) ((n + 1) / 2) 0 + cond (is_coded (region.x0 +ℤ pos 1) (region.y0 +ℤ pos b)) (n / 2) 0
+count_by_two region b zero = parts_none (coded_at region b 0) (coded_at region b 1)
+count_by_two region b (suc zero) =
+    let first = count_one region b 0 in
+    let parts = parts_one (coded_at region b 0) (coded_at region b 1) in
+    omega (arith, first, parts)
+count_by_two region b (suc (suc n)) =
+    let before = count_by_two region b n in
+    let first = count_one region b n in
+    let second = count_one region b (n + 1) in
+    let both = two_coded region b n in
+    let parts = parts_more (coded_at region b 0) (coded_at region b 1) n in
+    let whole : length (coded_columns region b (n + 2)) ≡ length (coded_columns region b (n + 1 + 1)) = ap (λ (m : ℕ). length (coded_columns region b m)) (omega arith) in
+    let two : n + 2 ≡ suc (suc n) = omega arith in
+    subst (λ (m : ℕ). length (coded_columns region b m) ≡ cond (coded_at region b 0) ((m + 1) / 2) 0 + cond (coded_at region b 1) (m / 2) 0) two
+    (omega (arith, before, first, second, both, parts, whole))

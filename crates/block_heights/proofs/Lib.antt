@@ -2,3 +2,4 @@ pub mod CodedRows
 pub mod Cells
 pub mod Codings
 pub mod Parts
+pub mod WholeRows

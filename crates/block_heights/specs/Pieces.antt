@@ -1,5 +1,5 @@
 -- The heights of a piece of a block.
-use Rattle.std.specs.Prelude.{◌≡◌, ℕ, ◌+◌, ◌*◌, ◌/◌, ◌%◌, ◌<◌, IsTrue, List, ℤ, pos, ◌+ℤ◌, ◌-ℤ◌, ◌≤ℤ◌, nat_abs, if◌then◌else◌, slice_index_or}
+use Rattle.std.specs.Prelude.{◌≡◌, ℕ, ◌+◌, ◌*◌, ◌/◌, ◌%◌, ◌<◌, IsTrue, List, ℤ, pos, ◌+ℤ◌, ◌-ℤ◌, ◌*ℤ◌, ◌≤ℤ◌, nat_abs, if◌then◌else◌, slice_index_or}
 use Rattle.clip_regions.specs.declared.region.Region.{Region}
 use Rattle.clip_regions.specs.Regions.{contains, columns, IsPlaced}
 use Rattle.terrain_model.specs.Tile.{raw_sample}
@@ -90,3 +90,14 @@ IsOutCell coarser step code inside i j (BadBlock fault) = ⊥
 IsOutCell coarser step code inside i j (OutOfRange a b value) =
     (a ≡ i) × (b ≡ j) × IsTrue (contains inside i j) × (value ≡ value_of coarser step i j (code i j))
     × (¬ IsNear step value)
+
+-- the value in column a of a row, by the predictions of its block's row, of which so many come before the first
+-- column, and by its codes
+abbrev pub row_value : List ℤ → ℕ → List ℤ → ℕ → ℕ → ℤ
+row_value predicted before codes step a =
+    slice_index_or predicted (before + a) (pos 0) +ℤ pos step *ℤ slice_index_or codes a (pos 0)
+
+-- the fault is that of the cell (i, j), which has this value
+abbrev pub IsOutValue : ℤ → ℕ → ℤ → ℤ → PieceFault → Type 0
+IsOutValue value step i j (BadBlock fault) = ⊥
+IsOutValue value step i j (OutOfRange a b v) = (a ≡ i) × (b ≡ j) × (v ≡ value) × (¬ IsNear step v)

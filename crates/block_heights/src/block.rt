@@ -1,5 +1,6 @@
 use clip_regions::Region;
 use rice_residuals::BlockFault;
+use thiserror::Error;
 
 /// A block of 8 x 8 cells of a level of a store.
 #[derive(Clone, Copy)]
@@ -30,11 +31,13 @@ pub enum Kind<'a> {
 }
 
 /// Why a piece of a block has no heights.
-#[derive(Clone, Copy, Debug, PartialEq, Eq)]
+#[derive(Clone, Copy, Debug, PartialEq, Eq, Error)]
 pub enum PieceFault {
     /// The block's bytes are no word of its codes, or not as many as its plain heights.
+    #[error("{fault}")]
     BadBlock { fault: BlockFault },
     /// The cell in column `i` and row `j` is the first of the piece whose value, in metres, is no height of 16 bits and
     /// not within half a step of one.
+    #[error("the value {value} in column {i} and row {j} is out of range")]
     OutOfRange { i: i32, j: i32, value: i32 },
 }

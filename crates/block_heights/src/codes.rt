@@ -1,6 +1,6 @@
 //! The codes of a block's cells.
 
-ghost use Rattle.std.specs.Prelude.{◌≡◌, ◌↔◌, ◌≤◌, ◌<◌, ◌+◌, ◌*◌, ◌^◌, ◌&&◌, ◌==◌, not, ℕ, false, List, [], length, take, All, pos, neg_ℤ, ◌+ℤ◌, ◌≤ℤ◌, IsTrue, slice_index_or};
+ghost use Rattle.std.specs.Prelude.{◌≡◌, ◌↔◌, ◌≤◌, ◌<◌, ◌+◌, ◌*◌, ◌^◌, ◌&&◌, ◌==◌, not, ℕ, false, List, [], length, take, All, pos, neg_ℤ, ◌+ℤ◌, ◌≤ℤ◌, IsTrue, slice_index_or, if◌then◌else◌};
 ghost use Rattle.clip_regions.specs.FloorDivision.{floor_rem};
 ghost use Rattle.clip_regions.specs.Regions.{columns, rows, IsPlaced};
 ghost use Rattle.rice_residuals.specs.Code.{IsResidual};
@@ -106,7 +106,18 @@ pub(crate) fn code_table(values: &[i32], region: Region, sides: Sides) -> [[i32;
     table
 }
 
-// How many codes a row of a region has.
+// So many cells, or none where they have no codes.
+#[inline]
+fn counted(coded: bool, cells: usize) -> usize
+    ensures value { result ≡ (if coded then cells else 0) }
+    ensures few { result ≤ cells }
+{
+    if coded { cells } else { 0 }
+}
+
+// How many codes a row of a region has: of its cells every other one is like the first, and every other one like the
+// second.
+#[inline]
 fn row_count(region: Region, b: usize, width: usize) -> u8
     requires placed { IsPlaced region }
     requires width { width ≤ 8 }
@@ -114,13 +125,9 @@ fn row_count(region: Region, b: usize, width: usize) -> u8
     ensures count { result ≡ length (coded_columns region b width) }
     ensures few { result ≤ 8 }
 {
-    let mut count = 0;
-    for a in 0..width {
-        if is_coded_in(region, a, b) {
-            count += 1;
-        }
-    }
-    count
+    let firsts = counted(is_coded_in(region, 0, b), (width + 1) / 2);
+    let seconds = counted(is_coded_in(region, 1, b), width / 2);
+    (firsts + seconds) as u8
 }
 
 // How many codes the word of a region's cells has.

@@ -7,6 +7,7 @@
 mod block;
 mod codes;
 mod pieces;
+mod rows;
 
 pub use block::{Block, Kind, PieceFault};
 pub use codes::is_coded;

@@ -15,6 +15,7 @@ ghost use Rattle.block_heights.specs.Decoded.{IsPart, IsNearZero, HasKind, HasHe
 
 use crate::block::{Block, Kind, PieceFault};
 use crate::codes::{Sides, code_table, count_of};
+use crate::rows::fill_rows;
 use byteorder::{BigEndian, ByteOrder};
 use clip_regions::Region;
 use four_point::{BlockPredictions, Patch, bring, predict_block};
@@ -39,11 +40,11 @@ pub(crate) fn sides_of(region: Region) -> Sides
     }
 }
 
-// A cell of a level.
+/// A cell of a level.
 #[derive(Clone, Copy)]
-struct Cell {
-    i: i32,
-    j: i32,
+pub(crate) struct Cell {
+    pub(crate) i: i32,
+    pub(crate) j: i32,
 }
 
 // The first cell of a region.
@@ -79,8 +80,9 @@ fn next_cell(region: Region, cell: Cell) -> Cell
     }
 }
 
-// Is the value a height of 16 bits or within half a step of one?
-fn is_near(value: i32, step: u8) -> bool
+/// Is the value a height of 16 bits or within half a step of one?
+#[inline]
+pub(crate) fn is_near(value: i32, step: u8) -> bool
     ensures { IsTrue result ↔ IsNear step value }
 {
     let half = i32::from(step.saturating_sub(1) / 2);
@@ -126,14 +128,14 @@ fn code_at(table: &[[i32; 8]; 8], region: Region, cell: Cell) -> i32
     table[place.b][place.a]
 }
 
-// The block of which a piece is filled: its patch of coarser heights, its codes, its cells in the terrain and its step.
+/// The block of which a piece is filled: its patch of coarser heights, its codes, its cells in the terrain and its step.
 #[derive(Clone, Copy)]
-struct Codes<'a> {
-    patch: &'a Patch,
-    predicted: &'a BlockPredictions<'a>,
-    table: &'a [[i32; 8]; 8],
-    inside: Region,
-    step: u8,
+pub(crate) struct Codes<'a> {
+    pub(crate) patch: &'a Patch,
+    pub(crate) predicted: &'a BlockPredictions<'a>,
+    pub(crate) table: &'a [[i32; 8]; 8],
+    pub(crate) inside: Region,
+    pub(crate) step: u8,
 }
 
 // The height of a cell, 0 outside the terrain.
@@ -169,8 +171,8 @@ fn height_at(codes: Codes<'_>, cell: Cell) -> Result<i16, PieceFault>
     Ok(bring(value))
 }
 
-// Writes the heights of a piece's cells, row by row.
-fn fill_coded(codes: Codes<'_>, cells: Region, out: &mut [i16]) -> Result<(), PieceFault>
+// Writes the heights of a piece's cells, one after another.
+fn fill_cells(codes: Codes<'_>, cells: Region, out: &mut [i16]) -> Result<(), PieceFault>
     requires inside { IsSmall codes.inside }
     requires patch { IsInPatch codes.patch.now codes.inside }
     requires predicted { codes.predicted.now.patch.now ≡ codes.patch.now }
@@ -198,6 +200,45 @@ fn fill_coded(codes: Codes<'_>, cells: Region, out: &mut [i16]) -> Result<(), Pi
         out[k] = height;
     }
     Ok(())
+}
+
+// Are two regions the same one?
+#[tactic(auto, using(crate::proofs::WholeRows::region_same))]
+fn is_same(a: Region, b: Region) -> bool
+    ensures { IsTrue result → a ≡ b }
+{
+    if a.x0 != b.x0 || a.y0 != b.y0 {
+        return false;
+    }
+    a.x1 == b.x1 && a.y1 == b.y1
+}
+
+// Writes the heights of a piece's cells, row by row.
+fn fill_coded(codes: Codes<'_>, cells: Region, out: &mut [i16]) -> Result<(), PieceFault>
+    requires inside { IsSmall codes.inside }
+    requires patch { IsInPatch codes.patch.now codes.inside }
+    requires predicted { codes.predicted.now.patch.now ≡ codes.patch.now }
+    requires step { IsStep codes.step }
+    requires in_range { (b : ℕ) → HasCodes (slice_index_or codes.table.now b []) }
+
+    // There are as many places as cells.
+    requires cells { IsSmall cells }
+    requires places { length out.old ≡ columns cells * rows cells }
+
+    // They are the heights of the definition, or the first cell is named whose value is near none of 16 bits.
+    ensures heights { OnOk result (IsPieceUpTo (length out.new) (within codes.entry.inside
+        (coded_height (patch_height codes.entry.patch.now) codes.entry.step
+        (table_code codes.entry.inside codes.entry.table.now))) cells out.new) }
+    ensures near { OnOk result (AreNearUpTo (length out.new) (patch_height codes.entry.patch.now) codes.entry.step
+        (table_code codes.entry.inside codes.entry.table.now) codes.entry.inside cells) }
+    ensures far { IfErr result (HasOut (patch_height codes.entry.patch.now) codes.entry.step
+        (table_code codes.entry.inside codes.entry.table.now) codes.entry.inside cells (length out.old)) }
+{
+    if is_same(cells, codes.inside) {
+        fill_rows(codes, out)
+    } else {
+        fill_cells(codes, cells, out)
+    }
 }
 
 // Number `n` of those that stand in two bytes each, the high byte first.

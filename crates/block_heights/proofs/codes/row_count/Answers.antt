@@ -1,16 +1,11 @@
-use Rattle.std.proofs.Common.{◌∙◌, sym, arith}
-use Rattle.block_heights.proofs.CodedRows.{count_more_coded, count_more_even}
+use Rattle.std.proofs.Common.{◌+◌, ◌/◌, ◌∙◌, ℕ, Bool, cond, sym}
+use mathlib.Core.Path.{ap₂}
+use Rattle.block_heights.proofs.CodedRows.{count_by_two}
 use Rattle.block_heights.proofs.codes.row_count.Goals as goal
-use Rattle.block_heights.proofs.codes.row_count.Goals.{then-is_coded_in, else-is_coded_in}
 
-pub loop-a-preserved : goal.loop-a-preserved
-loop-a-preserved c =
-    let i = c.loop-a.invariant in
-    elim c.if-is_coded_in.branch [
-      | then-is_coded_in w ↦
-          let more = count_more_coded c.args.region c.args.b c.loop-a.a (sym c.is_coded_in.ensures ∙ w.if-is_coded_in.true) in
-          record { count = omega arith; few = omega arith }
-      | else-is_coded_in w ↦
-          let more = count_more_even c.args.region c.args.b c.loop-a.a (sym c.is_coded_in.ensures ∙ w.if-is_coded_in.false) in
-          record { count = omega arith; few = omega arith }
-    ]
+pub returns-clause-count : goal.returns-clause-count
+returns-clause-count c =
+    let w = c.args.width in
+    ap₂ (λ (m n : ℕ). m + n) c.counted-firsts.ensures.value c.counted-seconds.ensures.value
+    ∙ ap₂ (λ (s t : Bool). cond s ((w + 1) / 2) 0 + cond t (w / 2) 0) c.is_coded_in.ensures c.is_coded_in-2.ensures
+    ∙ sym (count_by_two c.args.region c.args.b w)

@@ -1,7 +1,7 @@
 use Rattle.four_point.specs.Patches.{patch_height}
 use Rattle.block_heights.specs.Rows.{table_code}
 use Rattle.block_heights.specs.Pieces.{IsCellAt, IsPieceUpTo, AreNearUpTo, within, coded_height}
-use Rattle.block_heights.proofs.pieces.fill_coded.Given as goal
+use Rattle.block_heights.proofs.pieces.fill_cells.Given as goal
 
 abbrev pub invariant-loop-k : goal.invariant-loop-k
 invariant-loop-k l = record {

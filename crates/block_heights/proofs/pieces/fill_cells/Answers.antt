@@ -7,7 +7,7 @@ use Rattle.four_point.specs.Patches.{patch_height}
 use Rattle.block_heights.specs.Rows.{table_code}
 use Rattle.block_heights.specs.Pieces.{within, coded_height, column_of, row_of}
 use Rattle.block_heights.proofs.Cells.{piece_more, near_more, near_at, cell_inside}
-use Rattle.block_heights.proofs.pieces.fill_coded.Goals as goal
+use Rattle.block_heights.proofs.pieces.fill_cells.Goals as goal
 
 pub next_cell-cell-requires-clause-inside : goal.next_cell-cell-requires-clause-inside
 next_cell-cell-requires-clause-inside c =
