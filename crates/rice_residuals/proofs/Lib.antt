@@ -16,3 +16,4 @@ pub mod EndRead
 pub mod WordRead
 pub mod CodeWrite
 pub mod ShortWords
+pub mod ShortTaken

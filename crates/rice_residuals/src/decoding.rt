@@ -8,22 +8,11 @@ ghost use Rattle.rice_residuals.specs.Faults.{HasCodeFault, HasCodesFault, HasEn
 use crate::fault::BlockFault;
 use crate::folding::{FOLDED_LIMIT, LONG_ONES, NUMBER_BITS, unfold};
 use crate::reader::BitReader;
+use crate::register::joined;
 use crate::residuals::Residuals;
 
-// The number of a high part and `count` low bits.
-#[inline]
-fn joined(high: u32, count: u8, low: u32) -> u32
-    requires high { high < long_ones }
-    requires count { count < 16 }
-    requires low { low < 2 ^ count }
-    ensures { result ≡ high * 2 ^ count + low }
-{
-    (high << count) + low
-}
-
-// Takes one code, and gives the folded residual.
-#[inline]
-fn read_code(reader: &mut BitReader<'_>, parameter: u8) -> Result<u32, BlockFault>
+// Takes one code of either form, and gives the folded residual.
+fn read_either(reader: &mut BitReader<'_>, parameter: u8) -> Result<u32, BlockFault>
     requires { parameter < 16 }
     ensures below { IfOk result (λ u. u < folded_limit) }
     ensures code { IfOk result (λ u. reader.old.left ≡ code parameter u ++ reader.new.left) }
@@ -51,6 +40,21 @@ fn read_code(reader: &mut BitReader<'_>, parameter: u8) -> Result<u32, BlockFaul
         return Err(BlockFault::TooWide { bit });
     }
     Ok(short)
+}
+
+// Takes one code, and gives the folded residual.
+#[inline]
+fn read_code(reader: &mut BitReader<'_>, parameter: u8) -> Result<u32, BlockFault>
+    requires { parameter < 16 }
+    ensures below { IfOk result (λ u. u < folded_limit) }
+    ensures code { IfOk result (λ u. reader.old.left ≡ code parameter u ++ reader.new.left) }
+    ensures end { OnOk result (reader.new.place + length reader.new.left ≡ reader.old.place + length reader.old.left) }
+    ensures fault { IfErr result (λ fault. HasCodeFault parameter reader.old.place reader.old.left fault) }
+{
+    if let Some(short) = reader.take_short(parameter) {
+        return Ok(short);
+    }
+    read_either(reader, parameter)
 }
 
 // Takes so many codes.

@@ -1,10 +1,10 @@
 ghost use Rattle.std.specs.Prelude.{◌≡◌, ℕ, ◌≤◌, ◌<◌, ◌+◌, ◌-◌, ◌*◌, ◌^◌, ◌↔◌, true, false, ◌∷◌, ◌++◌, length, drop, replicate, IsNone, IfSome, IfNone, OnSome};
 ghost use Rattle.rice_residuals.specs.Bits.{low_bits, bits_of_bytes};
-ghost use Rattle.rice_residuals.specs.Code.{long_ones};
+ghost use Rattle.rice_residuals.specs.Code.{long_ones, folded_limit, code};
 ghost use Rattle.rice_residuals.specs.Faults.{form, low_length};
 
-use crate::folding::LONG_ONES;
-use crate::register::{Register, low_of, ready};
+use crate::folding::{FEW_ONES, LONG_ONES};
+use crate::register::{Register, joined, low_of, ready};
 use std::marker::Model;
 
 /// Takes bits from bytes, the high end of each byte first. Contracts see the place, which is the number of bits that
@@ -104,6 +104,29 @@ impl BitReader<'_> {
         let held = register.held - LONG_ONES;
         self.register = Register { held, ..register };
         Some(LONG_ONES)
+    }
+
+    /// Takes a code of fewer than eight ones, and gives the folded residual. None where the register doesn't hold such a
+    /// code whole.
+    #[inline]
+    pub(crate) fn take_short(&mut self, parameter: u8) -> Option<u32>
+        requires { parameter < 16 }
+        ensures unchanged { IfNone result (self.new ≡ self.old) }
+
+        ensures below { IfSome result (λ u. u < folded_limit) }
+        ensures code { IfSome result (λ u. self.old.left ≡ code parameter u ++ self.new.left) }
+        ensures end { IfSome result (λ _. self.new.place + length self.new.left ≡
+            self.old.place + length self.old.left) }
+    {
+        let register = ready(self.bytes, self.register, LONG_ONES);
+        let ones = ones_of(register.bits, register.held);
+        let count = u32::from(parameter);
+        if ones >= FEW_ONES || register.held < ones + 1 + count {
+            return None;
+        }
+        let held = register.held - ones - 1 - count;
+        self.register = Register { held, ..register };
+        Some(joined(ones, parameter, low_of(register.bits >> held, count)))
     }
 }
 

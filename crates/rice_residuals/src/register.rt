@@ -1,5 +1,6 @@
 ghost use Rattle.std.specs.Prelude.{◌≡◌, ℕ, ◌≤◌, ◌<◌, ◌+◌, ◌-◌, ◌*◌, ◌%◌, ◌^◌, ◌⊎◌, Bool, List, ◌++◌, length, take, drop};
 ghost use Rattle.rice_residuals.specs.Bits.{low_bits, bits_of_bytes};
+ghost use Rattle.rice_residuals.specs.Code.{long_ones};
 ghost use Rattle.rice_residuals.specs.Reading.{reading, IsSound};
 
 /// The low `held` bits of `bits`, which were read from the bytes before `next`.
@@ -89,4 +90,15 @@ pub fn low_of(bits: u64, count: u32) -> u32
     ensures below { result < 2 ^ count }
 {
     (bits & ((1 << count) - 1)) as u32
+}
+
+/// The number of a high part and `count` low bits.
+#[inline]
+pub fn joined(high: u32, count: u8, low: u32) -> u32
+    requires high { high < long_ones }
+    requires count { count < 16 }
+    requires low { low < 2 ^ count }
+    ensures { result ≡ high * 2 ^ count + low }
+{
+    (high << count) + low
 }

@@ -3,7 +3,7 @@ use Rattle.rice_residuals.specs.Bits.{low_bits}
 use Rattle.rice_residuals.specs.Faults.{form}
 use Rattle.rice_residuals.proofs.LowBits.{length-low_bits}
 use Rattle.rice_residuals.proofs.CodeRead.{cut_in_ones, cut_in_long, cut_in_short, long_of_small, long_code, short_code, too_wide, end_after, end_same}
-use Rattle.rice_residuals.proofs.decoding.read_code.Goals as goal
+use Rattle.rice_residuals.proofs.decoding.read_either.Goals as goal
 
 pub returns-in_default-clause-fault : goal.returns-in_default-clause-fault
 returns-in_default-clause-fault c =
