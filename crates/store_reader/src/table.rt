@@ -39,9 +39,7 @@ fn put_row(table: &mut [i16], at: usize, heights: &[i16], from: usize, count: us
     ensures row { IsRowIn count heights.now from at table.new }
     ensures kept { IsKeptBeside count at table.old table.new }
 {
-    for a in 0..count {
-        table[at + a] = heights[from + a];
-    }
+    table[at..at + count].copy_from_slice(&heights[from..from + count]);
 }
 
 // Puts heights, row by row, into a span of a table with so many columns.
