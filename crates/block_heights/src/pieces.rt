@@ -40,7 +40,7 @@ pub(crate) fn sides_of(region: Region) -> Sides
     }
 }
 
-/// A cell of a level.
+// A cell of a level.
 #[derive(Clone, Copy)]
 pub(crate) struct Cell {
     pub(crate) i: i32,
@@ -80,7 +80,7 @@ fn next_cell(region: Region, cell: Cell) -> Cell
     }
 }
 
-/// Is the value a height of 16 bits or within half a step of one?
+// Is the value a height of 16 bits or within half a step of one?
 #[inline]
 pub(crate) fn is_near(value: i32, step: u8) -> bool
     ensures { IsTrue result ↔ IsNear step value }
@@ -128,7 +128,7 @@ fn code_at(table: &[[i32; 8]; 8], region: Region, cell: Cell) -> i32
     table[place.b][place.a]
 }
 
-/// The block of which a piece is filled: its patch of coarser heights, its codes, its cells in the terrain and its step.
+// The block of which a piece is filled: its patch of coarser heights, its codes, its cells in the terrain and its step.
 #[derive(Clone, Copy)]
 pub(crate) struct Codes<'a> {
     pub(crate) patch: &'a Patch,

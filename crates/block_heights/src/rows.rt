@@ -178,7 +178,7 @@ fn fill_row(
     Ok(())
 }
 
-/// Writes the heights of all cells of a block in the terrain, row by row.
+// Writes the heights of all cells of a block in the terrain, row by row.
 pub(crate) fn fill_rows(codes: Codes<'_>, out: &mut [i16]) -> Result<(), PieceFault>
     requires inside { IsSmall codes.inside }
     requires patch { IsInPatch codes.patch.now codes.inside }

@@ -52,7 +52,7 @@ pub fn value_by(patch: &Patch, i: i32, j: i32, code: i32, step: u8) -> i32
     predict(patch, i, j) + steps_of(code, step)
 }
 
-/// So many steps, in metres.
+// So many steps, in metres.
 #[inline]
 pub(crate) fn steps_of(code: i32, step: u8) -> i32
     requires low { neg_ℤ (pos (2 ^ 17)) ≤ℤ code }

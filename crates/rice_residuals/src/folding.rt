@@ -4,10 +4,10 @@ ghost use Rattle.rice_residuals.specs.Code.{IsResidual, folded_limit, folded};
 // How many ones a code of the long form begins with.
 pub(crate) const LONG_ONES: u32 = 32;
 
-/// Short codes of fewer ones than this are codes of residuals, by any parameter.
+// Short codes of fewer ones than this are codes of residuals, by any parameter.
 pub(crate) const FEW_ONES: u32 = 8;
 
-/// How many bits the folded residual has behind them.
+// How many bits the folded residual has behind them.
 pub(crate) const NUMBER_BITS: u8 = 18;
 
 // How many bits a code of the long form has.

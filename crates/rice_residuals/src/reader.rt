@@ -106,8 +106,8 @@ impl BitReader<'_> {
         Some(LONG_ONES)
     }
 
-    /// Takes a code of fewer than eight ones, and gives the folded residual. None where the register doesn't hold such a
-    /// code whole.
+    // Takes a code of fewer than eight ones, and gives the folded residual. None where the register doesn't hold such a
+    // code whole.
     #[inline]
     pub(crate) fn take_short(&mut self, parameter: u8) -> Option<u32>
         requires { parameter < 16 }
