@@ -4,3 +4,4 @@ pub mod Seatings
 pub mod Frames
 pub mod ReadRows
 pub mod Placed
+pub mod Crossings

@@ -10,7 +10,7 @@ use std::marker::Model;
 /// The events of all passes over a book with their answers, the oldest first. A contract sees the list of entries.
 #[derive(Drop)]
 pub struct Journal {
-    entries: Vec<Entry>,
+    pub(crate) entries: Vec<Entry>,
 }
 
 impl Model for Journal {
