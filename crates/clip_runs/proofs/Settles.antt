@@ -3,7 +3,6 @@ use Rattle.std.proofs.Common.{◌≡◌, ℕ, ◌+◌, ◌-◌, ◌<◌, ◌≤�
 use Rattle.std.proofs.lemmas.Bool.{cases_Bool, cases_eq, cond-true, cond-false, true≢false, true_from_ne_false}
 use Rattle.std.proofs.lemmas.List.{get_or-set_same}
 use Rattle.std.specs.List.{fold, range_with_len}
-use Rattle.clip_regions.specs.declared.region.Region.{Region}
 use Rattle.plan_model.specs.Strips.{first_of}
 use Rattle.plan_model.specs.States.{State, Pass, pass_at, job_of, frame_of, has_work, from_coarsest}
 use Rattle.plan_model.specs.Claims.{Offer, offers, no_offer}
@@ -26,13 +25,14 @@ use Rattle.plan_flights.proofs.Still.{round_rests, unframed_at_rest}
 use Rattle.plan_flights.proofs.Views.{SameView}
 use Rattle.plan_histories.specs.Parts.{OthersKeepParts, PassesAreKept}
 use Rattle.plan_holds.specs.Laws.{StepsGoOn}
-use Rattle.book_plan.specs.Books.{adds, count_where}
+use Rattle.book_plan.specs.Books.{adds}
 use Rattle.book_plan.proofs.Plans.{opens, step_counts}
 use Rattle.book_cells.proofs.Claims.{of_no_offer}
 use Rattle.plan_plain.proofs.Flown.{folded_down}
 use Rattle.clip_book.specs.Books.{BookView}
-use Rattle.clip_runs.specs.Desks.{Takes}
-use Rattle.clip_runs.specs.Settles.{IsAlike, Stays, published_if_ripe}
+use Rattle.clip_desk.specs.Desks.{Stays}
+use Rattle.clip_desk.proofs.Stays.{stays_none, stays_then}
+use Rattle.clip_runs.specs.Settles.{IsAlike, published_if_ripe}
 
 -- the run in which pass 0 claimed a piece and gave it back
 abbrev pub filled_run : Run → Run
@@ -156,25 +156,6 @@ unfolding publishes
 published_state r r' e =
     folded_state (from_coarsest r.state) r r' e ∙ ap (λ (st : State). (fold publish_of r' (from_coarsest st)).state) e
 
-pub stays_then : (a b c : BookView) → Stays a b → Stays b c → Stays a c
-stays_then a b c h k = record {
-  land = k.land ∙ h.land;
-  moves = k.moves ∙ h.moves;
-  levels = k.levels ∙ h.levels;
-  begun = omega (arith, h.begun, k.begun);
-}
-
--- an event that begins no frame and is no move
-pub event_stays : StepsGoOn → (p : ℕ) (event : Event) (answer : Answer) (old new : BookView) → adds event ≡ 0 → opens event ≡ 0 → Takes p event answer old new → Stays old new
-event_stays go_on p event answer old new no_move no_frame takes =
-    let begun : new.plan.state.begun ≡ (step old.plan.state p event).state.begun = ap (λ (st : State). st.begun) takes.plan.state in
-    record {
-      land = takes.land;
-      moves = omega (arith, takes.plan.moves, no_move);
-      levels = ap (λ (st : State). length st.levels) takes.plan.state ∙ (go_on old.plan.state p event).levels;
-      begun = omega (arith, begun, step_counts old.plan.state p event, no_frame);
-    }
-
 -- the levels from one on were published, where they were ripe
 pub record IsDown (start now : BookView) (level : ℕ) : Type 0 where
   pub state : now.plan.state ≡ (fold publish_of (run_from start.plan.state) (reverse (range_with_len level (length start.plan.state.levels - level)))).state
@@ -185,7 +166,7 @@ down_start start n is =
     let none : length start.plan.state.levels - n ≡ 0 = omega (arith, is) in
     record {
       state = ap (λ (m : ℕ). (fold publish_of (run_from start.plan.state) (reverse (range_with_len n m))).state) (sym none);
-      stays = record { land = refl; moves = refl; levels = refl; begun = omega arith };
+      stays = stays_none start;
     }
 
 pub down_more : (start now next : BookView) (level : ℕ) → 0 < level → level ≤ length start.plan.state.levels → IsDown start now level →
@@ -204,15 +185,6 @@ unfolding publishes
 down_end start now down =
     let whole : length start.plan.state.levels - 0 ≡ length start.plan.state.levels = omega arith in
     down.state ∙ ap (λ (m : ℕ). (fold publish_of (run_from start.plan.state) (reverse (range_with_len 0 m))).state) whole
-
--- ---- whether a level is ripe, by the count of its pieces
-pub ripe_some : (n pieces : ℕ) (o : Option Region) → Some pieces ≡ count_where n o → (pieces == 0) ≡ (is_some o && (n == 0))
-ripe_some n pieces None e = absurd (cc)
-ripe_some n pieces (Some strip) e = let same : pieces ≡ n = cc in ap (λ (m : ℕ). m == 0) same
-
-pub ripe_none : (n : ℕ) (o : Option Region) → None ≡ count_where n o → false ≡ (is_some o && (n == 0))
-ripe_none n None e = refl
-ripe_none n (Some strip) e = absurd (cc)
 
 -- ---- settling
 -- a book that is filled: it is at rest, and settled once no piece was left

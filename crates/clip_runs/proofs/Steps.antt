@@ -2,7 +2,6 @@
 use Rattle.std.proofs.Common.{◌≡◌, ℕ, ◌+◌, ◌<◌, ◌≤◌, true, false, List, [], ◌∷◌, ◌++◌, length, drop, get_or, Option, None, Result, Ok, Err, refl, ap, sym, ◌∙◌, subst, arith}
 use Rattle.std.specs.Prelude.{OnOk}
 use Rattle.std.proofs.lemmas.Bool.{true≢false}
-use Rattle.std.proofs.lemmas.List.{at_drop_more}
 use mathlib.Core.Path.{ap₂}
 use Rattle.outer_shelf.specs.Outside.{ShelfTold, SinkTold}
 use Rattle.terrain_model.specs.Terrain.{Terrain}
@@ -22,8 +21,8 @@ use Rattle.run_actions.specs.Actions.{Write}
 use Rattle.run_actions.specs.Runs.{HadReason, Leaving, Ran}
 use Rattle.run_actions.specs.declared.halt.Halt.{Halt}
 use Rattle.run_actions.proofs.Ends.{ran_halted, ran_then, reason_then, within_none}
-use Rattle.clip_runs.specs.Desks.{Goes}
-use Rattle.clip_runs.specs.Plays.{Scene, after_step, end_actions, event_actions, step_actions, steps_actions}
+use Rattle.clip_desk.specs.Desks.{Goes}
+use Rattle.clip_desk.specs.Plays.{Scene, after_step, end_actions, event_actions, step_actions, steps_actions}
 use Rattle.clip_runs.specs.Stages.{HasTaken, is_end, scene_of}
 use Rattle.clip_runs.specs.declared.play.Stage.{Stage}
 
@@ -111,10 +110,6 @@ seen_taken go_on p old new goes view = record {
 pub done_both : {A B : Type 0} (r : Result A B) (P Q R : Type 0) → (P → Q → R) → OnOk r P → OnOk r Q → OnOk r R
 done_both (Ok x) P Q R f h k = f h k
 done_both (Err e) P Q R f h k = h
-
--- a list from a place on: the element there and the others, or nothing
-pub next_of : {A : Type 0} (xs : List A) (i : ℕ) (it : A) → i < length xs → it ≡ get_or xs i it → drop i xs ≡ it ∷ drop (i + 1) xs
-next_of xs i it there is = at_drop_more (λ l. l) xs i it there ∙ ap (λ x. x ∷ drop (i + 1) xs) (sym is)
 
 -- ---- steps one after another
 -- a play whose steps below i were taken: whatever is then done of the others completes all of them

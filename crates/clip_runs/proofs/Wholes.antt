@@ -36,15 +36,16 @@ use Rattle.terrain_model.specs.Terrain.{Terrain}
 use Rattle.mesh_model.specs.Mesh.{mesh}
 use Rattle.mesh_model.specs.Text.{frame_text}
 use Rattle.run_actions.specs.Actions.{Put, Write}
-use Rattle.clip_runs.specs.Frames.{mesh_of, whole_text_of}
-use Rattle.clip_runs.specs.WholeFrame.{frame_actions, told_line, whole_line, whole_text}
+use Rattle.clip_desk.specs.Frames.{mesh_of, whole_text_of}
+use Rattle.clip_desk.specs.Lines.{told_line}
+use Rattle.clip_runs.specs.WholeFrame.{frame_actions, whole_line, whole_text}
 use Rattle.plan_holds.specs.Laws.{StepsGoOn}
 use Rattle.book_plan.specs.Books.{PlanView}
 use Rattle.book_plan.proofs.Plans.{step_counts}
 use Rattle.terrain_store.specs.Shapes.{Land}
 use Rattle.clip_book.specs.Books.{BookView, started}
-use Rattle.clip_runs.specs.Desks.{Takes}
-use Rattle.clip_runs.specs.Settles.{IsAlike, IsFilledFor, Stays, whole_frame}
+use Rattle.clip_desk.specs.Desks.{Stays, Takes}
+use Rattle.clip_runs.specs.Settles.{IsAlike, IsFilledFor, whole_frame}
 
 -- after the first move a book is at rest
 pub moved_rests : FlightsEndAtRest → (k levels : ℕ) (x y : ℤ) (a : ℕ) → IsSize k → IsLevelCount levels → IsViewer x y a → IsAtRest (step (start_state k levels) 0 (Move x y a)).state

@@ -5,7 +5,7 @@ use Rattle.clip_script.specs.Ranges.{AreSizes, IsStep}
 use Rattle.clip_script.specs.Scripts.{Play as PlayLines, play_view}
 use Rattle.terrain_store.specs.Shapes.{Land}
 use Rattle.run_actions.specs.Actions.{Action}
-use Rattle.clip_runs.specs.Plays.{play_actions}
+use Rattle.clip_desk.specs.Plays.{play_actions}
 use Rattle.clip_runs.specs.WholeFrame.{frame_actions}
 use Rattle.clip_runs.specs.declared.course.Course as course
 use Rattle.clip_runs.specs.declared.course.Course.TheVariants as variant

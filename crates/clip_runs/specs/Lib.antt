@@ -1,8 +1,4 @@
 pub mod Courses
-pub mod Desks
-pub mod Frames
-pub mod Lines
-pub mod Plays
 pub mod Settles
 pub mod Stages
 pub mod Statuses

@@ -1,5 +1,5 @@
 -- What a book that is filled for one frame keeps.
-use Rattle.std.specs.Prelude.{◌≡◌, ◌≤◌, ℕ, ℤ, IsTrue, length, if◌then◌else◌}
+use Rattle.std.specs.Prelude.{◌≡◌, ℕ, ℤ, IsTrue, length, if◌then◌else◌}
 use Rattle.plan_model.specs.States.{State, OpenFrame}
 use Rattle.plan_model.specs.Steps.{step}
 use Rattle.plan_model.specs.Rounds.{is_ripe, is_settled}
@@ -12,13 +12,6 @@ use Rattle.clip_book.specs.Books.{BookView}
 -- a state whose level is published, where it is ripe
 abbrev pub published_if_ripe : State → ℕ → State
 published_if_ripe st level = if is_ripe st level then (step st 0 (Publish level)).state else st
-
--- the terrain, the number of moves and the number of levels stay, and no frame is begun
-pub record Stays (old new : BookView) : Type 0 where
-  pub land : new.land ≡ old.land
-  pub moves : new.plan.moves ≡ old.plan.moves
-  pub levels : length new.plan.state.levels ≡ length old.plan.state.levels
-  pub begun : new.plan.state.begun ≤ old.plan.state.begun
 
 -- two states of one K and one number of levels, seen from one place
 pub record IsAlike (old new : State) : Type 0 where

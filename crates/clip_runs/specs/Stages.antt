@@ -3,7 +3,7 @@ use Rattle.std.specs.Prelude.{◌≡◌, ◌+◌, ◌≤◌, Bool, true, false, 
 use Rattle.plan_model.specs.declared.events.Event.{Event}
 use Rattle.plan_model.specs.declared.events.Event.TheVariants.{Move, Claim, Finish, Publish, Begin, End}
 use Rattle.clip_script.specs.declared.step.Step.{Step}
-use Rattle.clip_runs.specs.Plays.{Scene, after_step}
+use Rattle.clip_desk.specs.Plays.{Scene, after_step}
 use Rattle.clip_runs.specs.declared.play.Stage.{Stage}
 
 -- the scene of a play

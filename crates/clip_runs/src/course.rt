@@ -5,10 +5,10 @@ ghost use Rattle.run_actions.specs.Runs.{HadReason, Ran};
 ghost use Rattle.clip_runs.specs.Courses.{IsCourseInRange, course_actions, course_view};
 ghost use Rattle.clip_runs.specs.Statuses.{IsComplete, IsRunStatus, ended_by};
 
-use crate::means::Means;
 use crate::play::play;
 use crate::single::single_frame;
 use crate::statuses::run_status;
+use clip_desk::Means;
 use clip_script::PlayScript;
 use decode_workers::Filler;
 use outer_shelf::{Shelf, Sink};

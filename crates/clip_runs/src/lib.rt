@@ -6,10 +6,6 @@
 #![tactic(auto)]
 
 mod course;
-mod desk;
-mod drawn;
-mod lines;
-mod means;
 mod play;
 mod settling;
 mod single;

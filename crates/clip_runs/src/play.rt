@@ -9,17 +9,13 @@ ghost use Rattle.clip_script.specs.Ranges.{AreSizes, IsAsked, IsStep};
 ghost use Rattle.clip_script.specs.Texts.{log_line};
 ghost use Rattle.run_actions.specs.Actions.{Put, Write};
 ghost use Rattle.run_actions.specs.Runs.{CallsWithin, HadReason, OnHalt, Ran, WriteEnds};
-ghost use Rattle.clip_runs.specs.Desks.{Goes};
-ghost use Rattle.clip_runs.specs.Frames.{frame_name};
-ghost use Rattle.clip_runs.specs.Lines.{view_line};
-ghost use Rattle.clip_runs.specs.Plays.{end_actions, end_seen_actions, event_actions};
-ghost use Rattle.clip_runs.specs.Plays.{play_actions, step_actions, steps_actions};
+ghost use Rattle.clip_desk.specs.Desks.{Goes};
+ghost use Rattle.clip_desk.specs.Lines.{view_line};
+ghost use Rattle.clip_desk.specs.Plays.{end_actions, end_seen_actions, event_actions};
+ghost use Rattle.clip_desk.specs.Plays.{play_actions, step_actions, steps_actions};
 ghost use Rattle.clip_runs.specs.Stages.{HasTaken, is_end, scene_of};
 
-use crate::desk::Desk;
-use crate::drawn::{Drawn, draw_seen, draw_whole, frame_name, put_frame};
-use crate::lines::{event_line, unseen_line, view_line};
-use crate::means::Means;
+use clip_desk::{Desk, Means, draw_seen, draw_whole, event_line, put_numbered, unseen_line, view_line};
 use clip_script::{PlayScript, Step, View};
 use decode_workers::Filler;
 use outer_shelf::{Shelf, Sink};
@@ -47,26 +43,6 @@ fn is_end(event: Event) -> bool
         Event::Move { .. } | Event::Claim | Event::Finish | Event::Publish { .. } | Event::Begin =>
             false,
         Event::End => true,
-    }
-}
-
-// Puts a frame under its number, and then writes its line.
-fn put_numbered<S: Shelf, K: Sink>(
-    alloc: Global,
-    name: &str,
-    number: u64,
-    drawn: &Drawn,
-    shelf: &mut S,
-    out: &mut K,
-) -> Result<(), Halt>
-    ensures ran { Ran S.leaves 0
-        (Put (frame_name name.now number) drawn.now.text.items ∷ Write (string_bytes drawn.now.line) ∷ []) result
-        (S.told shelf.old) (S.told shelf.new) (K.told out.old) (K.told out.new) }
-    ensures reason { HadReason result (S.told shelf.old) (S.told shelf.new) (K.told out.old) (K.told out.new) }
-{
-    match frame_name(alloc, name, number) {
-        Ok(file) => put_frame(shelf, out, file.as_str(), drawn),
-        Err(_) => Err(Halt::NoMemory),
     }
 }
 
@@ -274,7 +250,7 @@ fn take_steps<R: Threads + Sync, F: Filler, S: Shelf, K: Sink>(
 }
 
 // Takes the steps of a play script, one after another.
-#[tactic(auto, unfolding(crate::specs::Plays::play_actions))]
+#[tactic(auto, unfolding(clip_desk::specs::Plays::play_actions))]
 pub(crate) fn play<R: Threads + Sync, F: Filler, S: Shelf, K: Sink>(
     means: &Means<'_, R, F>,
     script: &PlayScript,

@@ -6,26 +6,15 @@ ghost use Rattle.plan_model.specs.Claims.{offers};
 ghost use Rattle.plan_model.specs.Rounds.{is_job, is_ripe, is_settled, publishes, round};
 ghost use Rattle.plan_model.specs.Histories.{run_from};
 ghost use Rattle.plan_flights.specs.Flights.{IsAtRest};
-ghost use Rattle.clip_runs.specs.Settles.{IsAlike, Stays, published_if_ripe};
+ghost use Rattle.clip_desk.specs.Desks.{Stays};
+ghost use Rattle.clip_runs.specs.Settles.{IsAlike, published_if_ripe};
 
-use crate::desk::Desk;
-use clip_book::Book;
+use clip_desk::{Desk, is_ripe};
 use decode_workers::Filler;
 use plan_flights::laws_below;
 use plan_histories::{others_keep_parts, passes_are_kept};
 use plan_holds::steps_go_on;
 use plan_model::{Answer, Event};
-
-// Whether all pieces of a level's current strip are finished.
-fn is_ripe(book: &Book, level: u8) -> bool
-    requires { level < length book.now.plan.state.levels }
-    ensures { result ≡ is_ripe book.now.plan.state level }
-{
-    match book.unfinished(level) {
-        Some(pieces) => pieces == 0,
-        None => false,
-    }
-}
 
 // Publishes a level, where it is ripe.
 fn publish_if_ripe<F: Filler>(filler: &F, desk: &mut Desk, level: u8)

@@ -10,11 +10,9 @@ ghost use Rattle.run_actions.specs.Runs.{HadReason, Ran};
 ghost use Rattle.clip_runs.specs.Settles.{IsFilledFor, whole_frame};
 ghost use Rattle.clip_runs.specs.WholeFrame.{frame_actions};
 
-use crate::desk::{Desk, NoMemory};
-use crate::drawn::{draw_alone, put_frame};
-use crate::means::Means;
 use crate::settling::settle;
 use clip_book::FrameNote;
+use clip_desk::{Desk, Means, NoMemory, draw_alone, put_frame};
 use decode_workers::Filler;
 use outer_shelf::{Shelf, Sink};
 use plan_flights::{flights_end_at_rest, laws_below};

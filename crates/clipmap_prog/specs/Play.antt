@@ -6,7 +6,7 @@ use Rattle.terrain_store.specs.Shapes.{Land}
 use Rattle.terrain_store.specs.Stores.{land_of}
 use Rattle.clip_script.specs.Scripts.{Play, play_of, play_view as script_view}
 use Rattle.clip_script.specs.declared.fault.ScriptFault.{ScriptFault}
-use Rattle.clip_runs.specs.Plays.{play_actions}
+use Rattle.clip_desk.specs.Plays.{play_actions}
 use Rattle.clipmap_words.specs.Play.{PlayView}
 use Rattle.run_actions.specs.Actions.{Action}
 use Rattle.clipmap_prog.specs.Faults.{Cause, File, Script}

@@ -3,7 +3,7 @@ use Rattle.std.specs.Prelude.{OnOk}
 use Rattle.plan_model.specs.declared.events.Event.{Event}
 use Rattle.run_actions.specs.Runs.{Ran}
 use Rattle.run_actions.proofs.Ends.{ran_write}
-use Rattle.clip_runs.specs.Desks.{Goes}
+use Rattle.clip_desk.specs.Desks.{Goes}
 use Rattle.clip_runs.proofs.Steps.{ends_event, is_the_end, tells_event}
 use Rattle.clip_runs.proofs.play.take_book.Goals as goal
 

@@ -2,7 +2,7 @@ use Rattle.std.proofs.Common.{◌≡◌, sym, subst}
 use Rattle.std.specs.Prelude.{OnOk}
 use Rattle.clip_script.specs.declared.step.Step.{Step}
 use Rattle.clip_script.specs.declared.step.Step.TheVariants.{Book, EndSeen}
-use Rattle.clip_runs.specs.Desks.{Goes}
+use Rattle.clip_desk.specs.Desks.{Goes}
 use Rattle.clip_runs.specs.Stages.{HasTaken}
 use Rattle.plan_model.specs.declared.events.Event.TheVariants.{End}
 use Rattle.clip_runs.proofs.Steps.{book_taken, done_both, seen_taken}

@@ -1,7 +1,8 @@
 use Rattle.std.proofs.Common.{length, sym, subst}
 use Rattle.std.proofs.lemmas.List.{drop_all}
 use Rattle.clip_script.specs.Ranges.{IsStep}
-use Rattle.clip_runs.proofs.Steps.{next_of, on_start, on_more, on_halt, on_end}
+use Rattle.clip_desk.proofs.Lists.{next_of}
+use Rattle.clip_runs.proofs.Steps.{on_start, on_more, on_halt, on_end}
 use Rattle.clip_runs.proofs.play.take_steps.Goals as goal
 
 pub take_step-requires-clause-step : goal.take_step-requires-clause-step

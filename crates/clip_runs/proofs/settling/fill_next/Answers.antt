@@ -2,8 +2,9 @@ use Rattle.std.proofs.Common.{◌≡◌, true, refl, sym, ap, ◌∙◌, arith}
 use Rattle.plan_model.specs.Steps.{step}
 use Rattle.plan_model.specs.Rounds.{is_job}
 use Rattle.plan_model.specs.declared.events.Event.TheVariants.{Claim, Finish}
-use Rattle.clip_runs.specs.Settles.{Stays}
-use Rattle.clip_runs.proofs.Settles.{event_stays, fill_is, job_was_offered, none_leaves, none_settled, stays_then}
+use Rattle.clip_desk.specs.Desks.{Stays}
+use Rattle.clip_desk.proofs.Stays.{event_stays, stays_then}
+use Rattle.clip_runs.proofs.Settles.{fill_is, job_was_offered, none_leaves, none_settled}
 use Rattle.clip_runs.proofs.settling.fill_next.Goals as goal
 
 pub take-requires-clause-begun : goal.take-requires-clause-begun

@@ -1,6 +1,6 @@
 use Rattle.std.proofs.Common.{refl}
 use Rattle.plan_model.specs.declared.events.Event.TheVariants.{Publish}
-use Rattle.clip_runs.proofs.Settles.{event_stays}
+use Rattle.clip_desk.proofs.Stays.{event_stays}
 use Rattle.clip_runs.proofs.settling.publish_if_ripe.Goals as goal
 
 pub returns-then-is_ripe-clause-stays : goal.returns-then-is_ripe-clause-stays

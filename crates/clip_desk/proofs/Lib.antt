@@ -1,0 +1,5 @@
+pub mod Jobs
+pub mod Lists
+pub mod Ripeness
+pub mod Stays
+pub mod Texts

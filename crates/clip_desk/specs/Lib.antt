@@ -1,0 +1,4 @@
+pub mod Desks
+pub mod Frames
+pub mod Lines
+pub mod Plays

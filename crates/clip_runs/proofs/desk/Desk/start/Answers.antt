@@ -1,5 +1,0 @@
-use Rattle.clip_runs.proofs.Jobs.{start_jobs}
-use Rattle.clip_runs.proofs.desk.Desk.start.Goals as goal
-
-pub invariant_of-result : goal.invariant_of-result
-invariant_of-result c = start_jobs c.args.k c.args.shape c.in-Ok-start.book c.in-Ok.jobs.items c.in-Ok-start.ensures.plan c.in-Ok.ensures
