@@ -2,14 +2,17 @@
 
 ghost use Rattle.std.specs.Prelude.{◌≡◌};
 ghost use Rattle.run_actions.specs.Runs.{HadReason, Ran};
-ghost use Rattle.clip_runs.specs.Courses.{IsCourseInRange, course_actions, course_view};
+ghost use Rattle.clip_script.specs.Scripts.{fly_view};
+ghost use Rattle.clip_flights.specs.Flights.{fly_actions};
+ghost use Rattle.clip_runs.specs.Courses.{AreWorkers, IsCourseInRange, IsFlyInRange, course_actions, course_view};
 ghost use Rattle.clip_runs.specs.Statuses.{IsComplete, IsRunStatus, ended_by};
 
 use crate::play::play;
 use crate::single::single_frame;
 use crate::statuses::run_status;
 use clip_desk::Means;
-use clip_script::PlayScript;
+use clip_flights::{demo, fly};
+use clip_script::{FlyScript, PlayScript};
 use decode_workers::Filler;
 use outer_shelf::{Shelf, Sink};
 use run_actions::Halt;
@@ -30,10 +33,46 @@ pub enum Course<'a> {
     },
     /// The steps of a play script.
     Play(&'a PlayScript),
+    /// A flight: its jobs are filled while its frames are drawn.
+    Fly {
+        /// The lines of the flight.
+        script: &'a FlyScript,
+        /// How many passes work, from 1 to 15.
+        workers: u8,
+    },
+    /// A flight with two workers, of which one line tells with a seed.
+    Demo {
+        /// The seed.
+        seed: u64,
+        /// The lines of the flight.
+        script: &'a FlyScript,
+    },
+}
+
+// Flies a script.
+fn fly_course<R: Threads + Sync, F: Filler + Sync, S: Shelf, K: Sink>(
+    means: &Means<'_, R, F>,
+    script: &FlyScript,
+    workers: u8,
+    shelf: &mut S,
+    out: &mut K,
+) -> Result<(), Halt>
+    requires script { IsFlyInRange (F.land means.now.filler.now).levels (fly_view script.now) }
+    requires workers { AreWorkers workers }
+    ensures ran { Ran S.leaves 0
+        (fly_actions (F.land means.now.filler.now).terrain script.now.k script.now.levels workers
+        script.now.lines.items means.now.name.now) result
+        (S.told shelf.old) (S.told shelf.new) (K.told out.old) (K.told out.new) }
+    ensures reason { HadReason result (S.told shelf.old) (S.told shelf.new) (K.told out.old) (K.told out.new) }
+{
+    match fly(means, script, workers, shelf, out) {
+        Ok(_) => Ok(()),
+        Err(halt) => Err(halt),
+    }
 }
 
 // Does a course.
-fn do_course<R: Threads + Sync, F: Filler, S: Shelf, K: Sink>(
+fn do_course<R: Threads + Sync, F: Filler + Sync, S: Shelf, K: Sink>(
     means: &Means<'_, R, F>,
     course: &Course<'_>,
     shelf: &mut S,
@@ -48,14 +87,16 @@ fn do_course<R: Threads + Sync, F: Filler, S: Shelf, K: Sink>(
     match *course {
         Course::Frame { k, x, y } => single_frame(means, k, x, y, shelf, out),
         Course::Play(script) => play(means, script, shelf, out),
+        Course::Fly { script, workers } => fly_course(means, script, workers, shelf, out),
+        Course::Demo { seed, script } => demo(means, seed, script, out),
     }
 }
 
 /// Runs a course over the terrain that a filler's shape names, and answers a status.
 ///
 /// Each event is done, then its file is put, then its line is written, before the next event. Frame number f of a play
-/// is put as `NAME-f.obj`, and the one frame of a [`Course::Frame`] under the name itself. A script's levels are those
-/// of the shape.
+/// and of a flight is put as `NAME-f.obj`, and the one frame of a [`Course::Frame`] under the name itself. A
+/// [`Course::Demo`] puts nothing and writes one line. A script's levels are those of the shape.
 ///
 /// | Status | When |
 /// |---|---|

@@ -15,7 +15,9 @@ ghost use Rattle.clip_desk.specs.Plays.{end_actions, end_seen_actions, event_act
 ghost use Rattle.clip_desk.specs.Plays.{play_actions, step_actions, steps_actions};
 ghost use Rattle.clip_runs.specs.Stages.{HasTaken, is_end, scene_of};
 
-use clip_desk::{Desk, Means, draw_seen, draw_whole, event_line, put_numbered, unseen_line, view_line};
+use clip_desk::{
+    Desk, Means, draw_seen, draw_whole, event_line, put_numbered, unseen_line, view_line,
+};
 use clip_script::{PlayScript, Step, View};
 use decode_workers::Filler;
 use outer_shelf::{Shelf, Sink};

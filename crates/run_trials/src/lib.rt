@@ -4,6 +4,12 @@
 #[cfg(test)]
 mod counted;
 #[cfg(test)]
+mod demos;
+#[cfg(test)]
+mod flights;
+#[cfg(test)]
+mod mosaics;
+#[cfg(test)]
 mod runs;
 #[cfg(test)]
 mod worked;

@@ -1,0 +1,3 @@
+pub mod InUse
+pub mod LineParts
+pub mod LongFlights

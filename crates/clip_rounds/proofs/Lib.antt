@@ -1,0 +1,4 @@
+pub mod Parts
+pub mod Flown
+pub mod OneEvent
+pub mod RoundSteps
