@@ -1,0 +1,2 @@
+mod ReadLevels
+mod Begun
