@@ -4,12 +4,6 @@
 #[cfg(test)]
 mod counted;
 #[cfg(test)]
-mod demos;
-#[cfg(test)]
-mod flights;
-#[cfg(test)]
-mod mosaics;
-#[cfg(test)]
 mod runs;
 #[cfg(test)]
 mod worked;
