@@ -1,3 +1,3 @@
 mod After
-mod Drawn
+pub mod Drawn
 mod Waits

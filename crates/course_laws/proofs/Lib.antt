@@ -1,0 +1,3 @@
+mod Flights
+mod Puts
+mod Whole
