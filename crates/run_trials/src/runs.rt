@@ -33,6 +33,27 @@ pub(crate) fn flat(alloc: Global, levels: u8) -> Result<Store, Fail>
     Ok(pack(alloc, &grid, levels)?)
 }
 
+// Hills without a pattern, 60 × 50 samples, of a seed.
+pub(crate) fn hills(alloc: Global, seed: u64) -> Result<Grid, Fail> {
+    let mut heights = vec![in alloc; 0i16; 3000]?;
+    let mut n = seed;
+    for height in &mut heights {
+        n = n
+            .wrapping_mul(6364136223846793005)
+            .wrapping_add(1442695040888963407);
+        *height = (n >> 51) as i16;
+    }
+    Ok(Grid::new(60, 50, heights))
+}
+
+// The store of a terrain, in so many levels.
+pub(crate) fn packed(alloc: Global, grid: &Grid, levels: u8) -> Result<Store, Fail>
+    requires { IsLevelCount levels }
+    ensures { IfOk result (λ store. (land_of store).levels ≡ levels) }
+{
+    Ok(pack(alloc, grid, levels)?)
+}
+
 // What a run left: the shelf and the sink.
 #[derive(Drop)]
 pub(crate) struct Left {
