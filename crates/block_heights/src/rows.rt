@@ -132,7 +132,8 @@ fn height_in(row: &Row, a: usize) -> Result<i16, PieceFault>
     Ok(bring(value))
 }
 
-// Writes the heights of row `b` of a block's cells in the terrain from place `start` on, behind those of the rows before.
+// Writes the heights of row `b` of a block's cells in the terrain from place `start` on, behind those of the rows
+// before.
 fn fill_row(
     codes: Codes<'_>,
     b: usize,

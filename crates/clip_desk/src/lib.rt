@@ -1,5 +1,5 @@
-//! The desk of a run over a terrain: a book whose jobs are filled as they are claimed, frames drawn from it, and the lines
-//! that tell of both.
+//! The desk of a run over a terrain: a book whose jobs are filled as they are claimed, frames drawn from it, and the
+//! lines that tell of both.
 //!
 //! `specs/Plays.antt` says what the steps of a play do: which files are put, and which lines are written.
 #![tactic(auto)]

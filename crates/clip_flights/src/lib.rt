@@ -1,8 +1,8 @@
 //! Flights over a terrain: a script of moves, frames and settles, done in rounds in which frames are drawn and jobs are
 //! filled at once.
 //!
-//! What a flight puts and writes is what a play of its events does. `specs/Flights.antt` says so, and what the demo's line
-//! tells of a flight.
+//! What a flight puts and writes is what a play of its events does. `specs/Flights.antt` says so, and what the demo's
+//! line tells of a flight.
 #![tactic(auto)]
 
 mod demos;

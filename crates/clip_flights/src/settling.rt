@@ -112,8 +112,8 @@ fn fly_rounds<R: Threads + Sync, F: Filler + Sync, S: Shelf, K: Sink>(
     Ok(())
 }
 
-// Rounds until every level in use is whole. There are at most as many as there are cells of windows in use that no filled
-// region holds when the settling starts.
+// Rounds until every level in use is whole. There are at most as many as there are cells of windows in use that no
+// filled region holds when the settling starts.
 #[tactic(auto, unfolding(plan_model::specs::Rounds::settle))]
 pub(crate) fn settle<R: Threads + Sync, F: Filler + Sync, S: Shelf, K: Sink>(
     means: &Means<'_, R, F>,

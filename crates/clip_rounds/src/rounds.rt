@@ -193,8 +193,8 @@ fn take_home<R: Threads + Sync, F: Filler, S: Shelf, K: Sink>(
 }
 
 /// One round with so many workers, at most 15: the passes below that number claim, what they are given is filled while
-/// the open frame is drawn, the jobs go back, the frame ends, and what is ripe is published. Where memory is wanting for
-/// the work, nothing more is written.
+/// the open frame is drawn, the jobs go back, the frame ends, and what is ripe is published. Where memory is wanting
+/// for the work, nothing more is written.
 pub fn fly_round<R: Threads + Sync, F: Filler + Sync, S: Shelf, K: Sink>(
     means: &Means<'_, R, F>,
     flight: &mut Flight,
