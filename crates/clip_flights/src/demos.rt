@@ -71,9 +71,13 @@ pub fn demo<R: Threads + Sync, F: Filler + Sync, K: Sink>(
     requires lines { All IsFlown script.now.lines.items }
     requires few { length script.now.lines.items ≤ 1048577 }
     requires levels { script.now.levels ≡ (F.land means.now.filler.now).levels }
+
+    // The line is whole or, where memory was wanting or the sink failed, a front of it.
     ensures ends { WriteEnds (demo_line seed (flight_tally (F.land means.now.filler.now).terrain
         script.now.k script.now.levels 2 script.now.lines.items)) result
         (K.told out.old).written (K.told out.new).written }
+
+    // There is at most one write, and a halt has its reason.
     ensures calls { CallsWithin 1 (K.told out.old).calls (K.told out.new).calls }
     ensures reason { OnHalt result ⊥ (Rose (K.told out.old).faults (K.told out.new).faults) }
     ensures faults_stay { (K.told out.old).faults ≤ (K.told out.new).faults }

@@ -60,10 +60,14 @@ fn take_line<R: Threads + Sync, F: Filler + Sync, S: Shelf, K: Sink>(
     requires land { F.land means.now.filler.now ≡ flight.old.book.land }
     requires some { 1 ≤ workers }
     requires workers { workers ≤ 15 }
+
+    // The line can be flown from here.
     requires line { IsFlown line }
     requires rest { IsAtRest flight.old.book.plan.state }
     requires moves { flight.old.book.plan.moves < 2 ^ 40 }
     requires begun { flight.old.book.plan.state.begun < 2 ^ 40 }
+
+    // It puts and writes what a play of its events does, and the next line goes on.
     ensures flew { Flew S.leaves flight.old.book.land.terrain means.now.name.now
         (λ run. fly_line workers run line) result (place_of flight.old) (place_of flight.new)
         (S.told shelf.old) (S.told shelf.new) (K.told out.old) (K.told out.new) }
@@ -89,11 +93,15 @@ fn take_lines<R: Threads + Sync, F: Filler + Sync, S: Shelf, K: Sink>(
     requires land { F.land means.now.filler.now ≡ flight.old.book.land }
     requires some { 1 ≤ workers }
     requires workers { workers ≤ 15 }
+
+    // The lines can be flown, and the book is at rest, at its start.
     requires lines { All IsFlown lines.now }
     requires few { length lines.now ≤ 1048577 }
     requires rest { IsAtRest flight.old.book.plan.state }
     requires moves { flight.old.book.plan.moves ≡ 0 }
     requires begun { flight.old.book.plan.state.begun ≡ 0 }
+
+    // They put and write what a play of their events does.
     ensures flew { Flew S.leaves flight.old.book.land.terrain means.now.name.now
         (lines_of workers lines.now) result (place_of flight.old) (place_of flight.new)
         (S.told shelf.old) (S.told shelf.new) (K.told out.old) (K.told out.new) }
@@ -118,15 +126,21 @@ pub fn fly<R: Threads + Sync, F: Filler + Sync, S: Shelf, K: Sink>(
 ) -> Result<Tally, Halt>
     requires some { 1 ≤ workers }
     requires workers { workers ≤ 15 }
+
+    // The script is one for the terrain of the filler.
     requires sizes { AreSizes script.now.k script.now.levels }
     requires lines { All IsFlown script.now.lines.items }
     requires few { length script.now.lines.items ≤ 1048577 }
     requires levels { script.now.levels ≡ (F.land means.now.filler.now).levels }
+
+    // It puts and writes what a play of its events does, or a front of that for a reason.
     ensures ran { Ran S.leaves 0
         (fly_actions (F.land means.now.filler.now).terrain script.now.k script.now.levels workers
         script.now.lines.items means.now.name.now) result
         (S.told shelf.old) (S.told shelf.new) (K.told out.old) (K.told out.new) }
     ensures reason { HadReason result (S.told shelf.old) (S.told shelf.new) (K.told out.old) (K.told out.new) }
+
+    // Its numbers are those of its frames and jobs.
     ensures tally { IfOk result (λ tally. tally
         ≡ flight_tally (F.land means.now.filler.now).terrain script.now.k script.now.levels workers
         script.now.lines.items) }

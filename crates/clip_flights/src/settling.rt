@@ -126,6 +126,8 @@ pub(crate) fn settle<R: Threads + Sync, F: Filler + Sync, S: Shelf, K: Sink>(
     requires some { 1 ≤ workers }
     requires workers { workers ≤ 15 }
     requires rest { IsAtRest flight.old.book.plan.state }
+
+    // It puts and writes what a play of its events does; then every level in use is whole.
     ensures flew { Flew S.leaves flight.old.book.land.terrain means.now.name.now
         (settle workers) result (place_of flight.old) (place_of flight.new)
         (S.told shelf.old) (S.told shelf.new) (K.told out.old) (K.told out.new) }

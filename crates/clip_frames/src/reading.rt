@@ -27,9 +27,13 @@ fn read_one(
     requires clip { pass.old.clip ≡ clip.now }
     requires level { level < clip.now.land.levels }
     requires there { level < length copies.old.actives }
+
+    // The frame is open, and the levels below this one are read.
     requires frame { HasOpen pass.old (open_frame note.now) }
     requires regions { copies.old.actives ≡ note.now.actives }
     requires read { AreRead clip.now.land.terrain level copies.old }
+
+    // The pass has waited for its turn, and one level more is read.
     ensures waited { HasWaited pass.old pass.new }
     ensures size { copies.new.k ≡ copies.old.k }
     ensures regions { copies.new.actives ≡ copies.old.actives }
@@ -49,9 +53,13 @@ fn read_all(
 )
     requires clip { pass.old.clip ≡ clip.now }
     requires levels { length note.now.actives ≡ clip.now.land.levels }
+
+    // The frame is open, and no level is read yet.
     requires frame { HasOpen pass.old (open_frame note.now) }
     requires regions { copies.old.actives ≡ note.now.actives }
     requires read { AreRead clip.now.land.terrain 0 copies.old }
+
+    // The pass has waited for its turns, and all heights are those of the terrain.
     ensures waited { HasWaited pass.old pass.new }
     ensures size { copies.new.k ≡ copies.old.k }
     ensures regions { copies.new.actives ≡ copies.old.actives }
@@ -76,6 +84,8 @@ pub fn read_frame(
     requires clip { pass.old.clip ≡ clip.now }
     requires frame { HasOpen pass.old (open_frame note.now) }
     requires size { IsSize k }
+
+    // The pass has waited for its turns; the heights are those of the terrain in the regions of the frame.
     ensures waited { HasWaited pass.old pass.new }
     ensures size { IfOk result (λ copies. copies.k ≡ k) }
     ensures regions { IfOk result (λ copies. copies.actives ≡ note.now.actives) }

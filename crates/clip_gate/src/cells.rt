@@ -58,9 +58,13 @@ pub(crate) fn cell_at(region: Region, columns: u32, rows: u32, place: u64) -> Ce
     requires near { IsWithin (2 ^ 24) region }
     requires columns { columns ≡ columns_of region }
     requires rows { rows ≡ rows_of region }
+
+    // They are few, and the place is one of the region.
     requires few_columns { columns < 2 ^ 26 }
     requires few_rows { rows < 2 ^ 26 }
     requires inside { place < columns * rows }
+
+    // The cell is the one there, row by row.
     ensures column { result.i ≡ region.x0 +ℤ pos (place % columns) }
     ensures row { result.j ≡ region.y0 +ℤ pos (place / columns) }
     ensures inside { HasCell region result.i result.j }

@@ -41,8 +41,12 @@ const TO_BEGIN: u32 = 2;
 fn write(table: &GateTable, seat: &mut Seat, desk: Desk, entry: Entry) -> Part
     requires low { entry.pass < 16 }
     requires table { IsSeatOf seat.old.table_id table.now.shared.table_id }
+
+    // The turn is the pass's, and the book has answered.
     requires turn { InTurn seat.old.me }
     requires answered { IsAnswered seat.old.me.0 entry desk }
+
+    // The entry is written, and the part is what the pass has then.
     ensures part { IsPart result (pass_at desk.book.plan.state entry.pass) }
     ensures table { seat.new.table_id ≡ seat.old.table_id }
     ensures noted { Noted seat.old.me seat.new.me entry desk }

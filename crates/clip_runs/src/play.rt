@@ -58,11 +58,17 @@ fn take_event<R: Threads + Sync, F: Filler, K: Sink>(
 ) -> Result<(), Halt>
     requires land { F.land means.now.filler.now ≡ desk.old.land }
     requires asked { IsAsked (length desk.old.plan.state.levels) pass event }
+
+    // There is room for the event.
     requires moves { desk.old.plan.moves < 2 ^ 40 }
     requires begun { desk.old.plan.state.begun < 2 ^ 40 }
+
+    // The event is done, and its line is written or a front of it.
     ensures goes { Goes pass event desk.old desk.new }
     ensures ends { WriteEnds (log_line pass event (step desk.old.plan.state pass event).answer) result
         (K.told out.old).written (K.told out.new).written }
+
+    // There is at most one write, and a halt has its reason.
     ensures calls { CallsWithin 1 (K.told out.old).calls (K.told out.new).calls }
     ensures reason { OnHalt result ⊥ (Rose (K.told out.old).faults (K.told out.new).faults) }
     ensures faults_stay { (K.told out.old).faults ≤ (K.told out.new).faults }
@@ -84,10 +90,16 @@ fn end_frame<R: Threads + Sync, F: Filler, S: Shelf, K: Sink>(
 ) -> Result<(), Halt>
     requires land { F.land means.now.filler.now ≡ stage.old.desk.land }
     requires asked { IsAsked (length stage.old.desk.plan.state.levels) pass End }
+
+    // There is room for the event.
     requires moves { stage.old.desk.plan.moves < 2 ^ 40 }
     requires begun { stage.old.desk.plan.state.begun < 2 ^ 40 }
+
+    // The event is done, and the view stays.
     ensures goes { OnOk result (Goes pass End stage.old.desk stage.new.desk) }
     ensures view { OnOk result (stage.new.view ≡ stage.old.view) }
+
+    // It puts and writes what the definition says, or a front of that for a reason.
     ensures ran { Ran S.leaves 0
         (end_actions stage.old.desk.land.terrain means.now.name.now stage.old.desk.plan.state.k pass
         (frame_of (pass_at stage.old.desk.plan.state pass))) result
@@ -129,10 +141,16 @@ fn take_book<R: Threads + Sync, F: Filler, S: Shelf, K: Sink>(
 ) -> Result<(), Halt>
     requires land { F.land means.now.filler.now ≡ stage.old.desk.land }
     requires asked { IsAsked (length stage.old.desk.plan.state.levels) pass event }
+
+    // There is room for the event.
     requires moves { stage.old.desk.plan.moves < 2 ^ 40 }
     requires begun { stage.old.desk.plan.state.begun < 2 ^ 40 }
+
+    // The event is done, and the view stays.
     ensures goes { OnOk result (Goes pass event stage.old.desk stage.new.desk) }
     ensures view { OnOk result (stage.new.view ≡ stage.old.view) }
+
+    // It puts and writes what the definition says, or a front of that for a reason.
     ensures ran { Ran S.leaves 0
         (event_actions stage.old.desk.land.terrain means.now.name.now stage.old.desk.plan.state pass event) result
         (S.told shelf.old) (S.told shelf.new) (K.told out.old) (K.told out.new) }
@@ -155,10 +173,16 @@ fn end_seen<R: Threads + Sync, F: Filler, S: Shelf, K: Sink>(
 ) -> Result<(), Halt>
     requires land { F.land means.now.filler.now ≡ stage.old.desk.land }
     requires asked { IsAsked (length stage.old.desk.plan.state.levels) pass End }
+
+    // There is room for the event.
     requires moves { stage.old.desk.plan.moves < 2 ^ 40 }
     requires begun { stage.old.desk.plan.state.begun < 2 ^ 40 }
+
+    // The event is done, and the view stays.
     ensures goes { OnOk result (Goes pass End stage.old.desk stage.new.desk) }
     ensures view { OnOk result (stage.new.view ≡ stage.old.view) }
+
+    // It puts and writes what the definition says, or a front of that for a reason.
     ensures ran { Ran S.leaves 0
         (end_seen_actions stage.old.desk.land.terrain means.now.name.now stage.old.desk.plan.state.k
         stage.old.view pass (frame_of (pass_at stage.old.desk.plan.state pass))) result
@@ -208,8 +232,12 @@ fn take_step<R: Threads + Sync, F: Filler, S: Shelf, K: Sink>(
 ) -> Result<(), Halt>
     requires land { F.land means.now.filler.now ≡ stage.old.desk.land }
     requires step { IsStep (length stage.old.desk.plan.state.levels) step.now }
+
+    // There is room for the step.
     requires moves { stage.old.desk.plan.moves < 2 ^ 40 }
     requires begun { stage.old.desk.plan.state.begun < 2 ^ 40 }
+
+    // The step is done; it puts and writes what the definition says, or a front of that for a reason.
     ensures taken { OnOk result (HasTaken step.now stage.old stage.new) }
     ensures ran { Ran S.leaves 0
         (step_actions stage.old.desk.land.terrain means.now.name.now (scene_of stage.old) step.now) result
@@ -235,8 +263,12 @@ fn take_steps<R: Threads + Sync, F: Filler, S: Shelf, K: Sink>(
     requires land { F.land means.now.filler.now ≡ stage.old.desk.land }
     requires steps { All (IsStep (length stage.old.desk.plan.state.levels)) steps.now }
     requires few { length steps.now ≤ 1048577 }
+
+    // The book is at its start.
     requires moves { stage.old.desk.plan.moves ≡ 0 }
     requires begun { stage.old.desk.plan.state.begun ≡ 0 }
+
+    // They put and write what the definition says, or a front of that for a reason.
     ensures ran { Ran S.leaves 0
         (steps_actions stage.old.desk.land.terrain means.now.name.now (scene_of stage.old) steps.now) result
         (S.told shelf.old) (S.told shelf.new) (K.told out.old) (K.told out.new) }

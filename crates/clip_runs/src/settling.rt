@@ -59,12 +59,18 @@ fn is_job(answer: Answer) -> bool
 fn fill_next<F: Filler>(filler: &F, desk: &mut Desk) -> bool
     requires land { F.land filler.now ≡ desk.old.land }
     requires rest { IsAtRest desk.old.plan.state }
+
+    // There is room for the events.
     requires moves { desk.old.plan.moves < 2 ^ 40 }
     requires begun { desk.old.plan.state.begun < 2 ^ 40 }
+
+    // A piece was offered and is filled, as by one round of one worker; or every level was whole, and nothing changes.
     ensures filled { IsTrue result → desk.new.plan.state ≡ (round 1 (run_from desk.old.plan.state)).state }
     ensures offered { IsTrue result → IsTrue (is_some (first_of (offers desk.old.plan.state))) }
     ensures settled { IsFalse result → IsTrue (is_settled desk.old.plan.state) }
     ensures same { IsFalse result → desk.new.plan.state ≡ desk.old.plan.state }
+
+    // The rest of the book stays.
     ensures stays { Stays desk.old desk.new }
 {
     laws_below();
@@ -85,8 +91,12 @@ fn fill_next<F: Filler>(filler: &F, desk: &mut Desk) -> bool
 pub(crate) fn settle<F: Filler>(filler: &F, desk: &mut Desk)
     requires land { F.land filler.now ≡ desk.old.land }
     requires rest { IsAtRest desk.old.plan.state }
+
+    // There is room for the events.
     requires moves { desk.old.plan.moves < 2 ^ 40 }
     requires begun { desk.old.plan.state.begun < 2 ^ 40 }
+
+    // Then every level in use is whole, and the rest of the book stays.
     ensures rest { IsAtRest desk.new.plan.state }
     ensures settled { IsTrue (is_settled desk.new.plan.state) }
     ensures alike { IsAlike desk.old.plan.state desk.new.plan.state }

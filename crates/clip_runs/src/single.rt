@@ -44,11 +44,17 @@ fn begin_whole<F: Filler>(filler: &F, desk: &mut Desk) -> FrameNote
     requires land { F.land filler.now ≡ desk.old.land }
     requires rest { IsAtRest desk.old.plan.state }
     requires settled { IsTrue (is_settled desk.old.plan.state) }
+
+    // It stands low, and no frame was begun yet.
     requires low { desk.old.plan.state.altitude ≡ 0 }
     requires first { desk.old.plan.state.begun ≡ 0 }
     requires moves { desk.old.plan.moves < 2 ^ 40 }
+
+    // The frame is open, and has every level whole.
     ensures frame { HasFrame desk.new.plan.state 0 (open_frame result) }
     ensures whole { open_frame result ≡ whole_frame desk.old.plan.state }
+
+    // The rest of the book stays.
     ensures land { desk.new.land ≡ desk.old.land }
     ensures size { desk.new.plan.state.k ≡ desk.old.plan.state.k }
     ensures moves { desk.new.plan.moves ≡ desk.old.plan.moves }

@@ -133,6 +133,8 @@ pub fn split(table: &GateTable, seat: &mut Seat) -> Seat
     requires table { IsSeatOf seat.old.table_id table.now.shared.table_id }
     requires rests { Rests seat.old.me }
     requires some { flag seat.old.me.0.left (least seat.old.me.0.left) ≡ true }
+
+    // Both keep the table; one gives the number, and the other begins with it alone.
     ensures table { (seat.new.table_id ≡ seat.old.table_id) × (result.table_id ≡ seat.old.table_id) }
     ensures kept { seat.new.me ≡ (kept_back seat.old.me.0, []) }
     ensures given { result.me ≡ (given_away seat.old.me.0, []) }
@@ -148,7 +150,11 @@ pub fn take_over<R: Wait>(rt: &R, table: &GateTable, seat: &mut Seat, other: Sea
     requires other_table { IsSeatOf other.table_id table.now.shared.table_id }
     requires rests { Rests seat.old.me }
     requires other_rests { Rests other.me }
+
+    // The other has nothing.
     requires free { pass_at (state_in (ground_of other.me.0) other.me.0.seen) other.me.0.own ≡ Free }
+
+    // The pass has what it had, and the numbers of the other.
     ensures table { seat.new.table_id ≡ seat.old.table_id }
     ensures taken { TakesOver seat.old.me other.me seat.new.me }
 {
