@@ -194,7 +194,7 @@ rem_again i x e =
     let whole' = quotient_and_rest i 2 (omega arith) in
     omega (arith, ints, below, below', whole, whole', e)
 
-coded_again : (region : Region) (b n : ℕ) → coded_at region b (n + 2) ≡ coded_at region b n
+pub coded_again : (region : Region) (b n : ℕ) → coded_at region b (n + 2) ≡ coded_at region b n
 unfolding is_coded
 coded_again region b n =
     ap (λ (m : ℕ). not ((m == 0) && (floor_rem (region.y0 +ℤ pos b) 2 == 0))) (rem_again (region.x0 +ℤ pos n) (region.x0 +ℤ pos (n + 2)) (omega (arith, ints)))

@@ -3,3 +3,5 @@ pub mod Cells
 pub mod Codings
 pub mod Parts
 pub mod WholeRows
+pub mod WholeCodes
+pub mod ExactRows

@@ -1,5 +1,5 @@
 -- The heights of a piece of a block.
-use Rattle.std.specs.Prelude.{◌≡◌, ℕ, ◌+◌, ◌*◌, ◌/◌, ◌%◌, ◌<◌, IsTrue, List, ℤ, pos, ◌+ℤ◌, ◌-ℤ◌, ◌*ℤ◌, ◌≤ℤ◌, nat_abs, if◌then◌else◌, slice_index_or}
+use Rattle.std.specs.Prelude.{◌≡◌, neg_ℤ, ℕ, ◌+◌, ◌*◌, ◌/◌, ◌%◌, ◌<◌, IsTrue, List, ℤ, pos, ◌+ℤ◌, ◌-ℤ◌, ◌*ℤ◌, ◌≤ℤ◌, nat_abs, if◌then◌else◌, slice_index_or}
 use Rattle.clip_regions.specs.declared.region.Region.{Region}
 use Rattle.clip_regions.specs.Regions.{contains, columns, IsPlaced}
 use Rattle.terrain_model.specs.Tile.{raw_sample}
@@ -101,3 +101,9 @@ row_value predicted before codes step a =
 abbrev pub IsOutValue : ℤ → ℕ → ℤ → ℤ → PieceFault → Type 0
 IsOutValue value step i j (BadBlock fault) = ⊥
 IsOutValue value step i j (OutOfRange a b v) = (a ≡ i) × (b ≡ j) × (v ≡ value) × (¬ IsNear step v)
+
+-- a height that is a value itself, which is one of 16 bits
+pub record IsExact (value height : ℤ) : Type 0 where
+  pub same : height ≡ value
+  pub low : neg_ℤ (pos 32768) ≤ℤ value
+  pub high : value ≤ℤ pos 32767

@@ -1,5 +1,5 @@
 -- The coded cells of a region by their columns, and tables of codes.
-use Rattle.std.specs.Prelude.{ℕ, ◌≡◌, false, List, [], map, filter, length, ℤ, pos, negsuc, ◌+ℤ◌, ◌-ℤ◌, slice_index_or}
+use Rattle.std.specs.Prelude.{ℕ, ◌≡◌, false, List, [], ◌∷◌, map, filter, length, ℤ, pos, negsuc, ◌+ℤ◌, ◌-ℤ◌, slice_index_or}
 use Rattle.std.specs.List.{flat_map, range_with_len}
 use Rattle.clip_regions.specs.declared.region.Region.{Region}
 use Rattle.rice_residuals.specs.Code.{IsResidual}
@@ -16,6 +16,12 @@ cell_of table a b = slice_index_or (slice_index_or table b []) a (pos 0)
 -- what a row of a table has at those columns
 abbrev pub row_values : Region → ℕ → ℕ → List ℤ → List ℤ
 row_values region b n row = map (λ a. slice_index_or row a (pos 0)) (coded_columns region b n)
+
+-- the first four of some codes at every other of eight columns, from the second on
+abbrev pub spread_out : List ℤ → List ℤ
+spread_out values =
+    pos 0 ∷ slice_index_or values 0 (pos 0) ∷ pos 0 ∷ slice_index_or values 1 (pos 0)
+    ∷ pos 0 ∷ slice_index_or values 2 (pos 0) ∷ pos 0 ∷ slice_index_or values 3 (pos 0) ∷ []
 
 -- what a table has at the coded cells of the first n rows of a region, n columns wide
 abbrev pub table_values : Region → ℕ → ℕ → List (List ℤ) → List ℤ

@@ -1,11 +1,11 @@
 //! The codes of a block's cells.
 
-ghost use Rattle.std.specs.Prelude.{◌≡◌, ◌↔◌, ◌≤◌, ◌<◌, ◌+◌, ◌*◌, ◌^◌, ◌&&◌, ◌==◌, not, ℕ, false, List, [], length, take, All, pos, neg_ℤ, ◌+ℤ◌, ◌≤ℤ◌, IsTrue, slice_index_or, if◌then◌else◌};
+ghost use Rattle.std.specs.Prelude.{◌≡◌, ◌↔◌, ◌≤◌, ◌<◌, ◌+◌, ◌*◌, ◌^◌, ◌&&◌, ◌==◌, not, ℕ, true, false, List, [], length, take, All, pos, neg_ℤ, ◌+ℤ◌, ◌≤ℤ◌, IsTrue, slice_index_or, if◌then◌else◌};
 ghost use Rattle.clip_regions.specs.FloorDivision.{floor_rem};
 ghost use Rattle.clip_regions.specs.Regions.{columns, rows, IsPlaced};
 ghost use Rattle.rice_residuals.specs.Code.{IsResidual};
 ghost use Rattle.store_model.specs.Blocks.{is_coded, code_count, coded_values, IsCoding};
-ghost use Rattle.block_heights.specs.Rows.{coded_columns, row_values, table_values, coded_before, cell_of, table_code, IsCodeRow, HasCodes};
+ghost use Rattle.block_heights.specs.Rows.{coded_columns, row_values, table_values, coded_before, spread_out, cell_of, table_code, IsCodeRow, HasCodes};
 
 use clip_regions::Region;
 
@@ -52,8 +52,8 @@ struct CodeRow {
     used: usize,
 }
 
-// Puts the first codes into the columns of row `b` of a region that have coded cells.
-fn code_row(values: &[i32], region: Region, b: usize, width: usize) -> CodeRow
+// Puts the first codes into the columns of row `b` of a region that have coded cells, column by column.
+fn part_row(values: &[i32], region: Region, b: usize, width: usize) -> CodeRow
     requires placed { IsPlaced region }
     requires width { width ≤ 8 }
     requires row { b ≤ 8 }
@@ -77,6 +77,78 @@ fn code_row(values: &[i32], region: Region, b: usize, width: usize) -> CodeRow
         }
     }
     CodeRow { codes, used }
+}
+
+// The first eight codes, a column each.
+#[inline]
+fn full_row(values: &[i32]) -> CodeRow
+    requires enough { 8 ≤ length values.now }
+    ensures used { result.used ≡ 8 }
+    ensures codes { result.codes ≡ take 8 values.now }
+{
+    let mut codes = [0; 8];
+    codes.copy_from_slice(&values[..8]);
+    CodeRow { codes, used: 8 }
+}
+
+// The first four codes in every other column, from the second on, and 0 between them.
+#[inline]
+fn half_row(values: &[i32]) -> CodeRow
+    requires enough { 4 ≤ length values.now }
+    requires in_range { All IsResidual values.now }
+    ensures used { result.used ≡ 4 }
+    ensures codes { result.codes ≡ spread_out values.now }
+{
+    CodeRow {
+        codes: [0, values[0], 0, values[1], 0, values[2], 0, values[3]],
+        used: 4,
+    }
+}
+
+// Puts the first codes into the columns of row `b` of a region of eight columns, the second of which is coded.
+#[inline]
+fn whole_row(values: &[i32], region: Region, b: usize) -> CodeRow
+    requires second { is_coded (region.x0 +ℤ pos 1) (region.y0 +ℤ pos b) ≡ true }
+    requires placed { IsPlaced region }
+    requires row { b ≤ 8 }
+
+    // There is a value for each coded cell of the row.
+    requires enough { length (coded_columns region b 8) ≤ length values.now }
+    requires in_range { All IsResidual values.now }
+
+    // The first values stand in their columns, and 0 in the others.
+    ensures used { result.used ≡ length (coded_columns region b 8) }
+    ensures codes { row_values region b 8 result.codes ≡ take result.used values.now }
+    ensures even { IsCodeRow region b result.codes }
+    ensures in_range { HasCodes result.codes }
+{
+    if is_coded_in(region, 0, b) {
+        return full_row(values);
+    }
+    half_row(values)
+}
+
+// Puts the first codes into the columns of row `b` of a region that have coded cells.
+#[inline]
+fn code_row(values: &[i32], region: Region, b: usize, width: usize) -> CodeRow
+    requires placed { IsPlaced region }
+    requires width { width ≤ 8 }
+    requires row { b ≤ 8 }
+
+    // There is a value for each coded cell of the row.
+    requires enough { length (coded_columns region b width) ≤ length values.now }
+    requires in_range { All IsResidual values.now }
+
+    // The first values stand in their columns, and 0 in the others.
+    ensures used { result.used ≡ length (coded_columns region b width) }
+    ensures codes { row_values region b width result.codes ≡ take result.used values.now }
+    ensures even { IsCodeRow region b result.codes }
+    ensures in_range { HasCodes result.codes }
+{
+    if width == 8 && is_coded_in(region, 1, b) {
+        return whole_row(values, region, b);
+    }
+    part_row(values, region, b, width)
 }
 
 // Puts the codes of a region's cells into a table, whose first column and row are those of the region.

@@ -1,12 +1,12 @@
 //! The heights of all cells of a block in the terrain, row by row.
 
-ghost use Rattle.std.specs.Prelude.{◌≡◌, ◌≤◌, ◌<◌, ◌+◌, ◌*◌, ◌^◌, ℕ, [], length, pos, neg_ℤ, ◌+ℤ◌, ◌*ℤ◌, ◌≤ℤ◌, ◌<ℤ◌, IfOk, IfErr, OnOk, slice_index_or};
+ghost use Rattle.std.specs.Prelude.{◌≡◌, ◌≤◌, ◌<◌, ◌+◌, ◌*◌, ◌^◌, ℕ, [], length, pos, neg_ℤ, ◌+ℤ◌, ◌-ℤ◌, ◌*ℤ◌, ◌≤ℤ◌, ◌<ℤ◌, IfOk, IfErr, IfSome, OnOk, slice_index_or};
 ghost use Rattle.clip_regions.specs.Regions.{columns, rows};
 ghost use Rattle.four_point.specs.Blocks.{first_cell, AreSmall};
 ghost use Rattle.four_point.specs.Patches.{patch_height, IsOfBlock, IsAtMost};
 ghost use Rattle.four_point.specs.Steps.{IsStep, IsNear, value_of, brought};
 ghost use Rattle.block_heights.specs.Rows.{table_code, HasCodes};
-ghost use Rattle.block_heights.specs.Pieces.{IsSmall, IsInPatch, within, IsPieceUpTo, coded_height, AreNearUpTo, HasOut, row_value, IsOutValue};
+ghost use Rattle.block_heights.specs.Pieces.{IsSmall, IsInPatch, within, IsPieceUpTo, coded_height, AreNearUpTo, HasOut, row_value, IsOutValue, IsExact};
 
 use crate::block::PieceFault;
 use crate::pieces::{Cell, Codes, is_near, sides_of};
@@ -89,7 +89,8 @@ fn value_by(prediction: i32, code: i32, step: u8) -> i32
     requires prediction { IsAtMost 51200 prediction }
     requires low { neg_ℤ (pos (2 ^ 17)) ≤ℤ code }
     requires high { code <ℤ pos (2 ^ 17) }
-    ensures { result ≡ prediction +ℤ pos step *ℤ code }
+    ensures value { result ≡ prediction +ℤ pos step *ℤ code }
+    ensures size { IsAtMost 33474560 result }
 {
     prediction + steps_of(code, step)
 }
@@ -100,7 +101,8 @@ fn value_in(row: &Row, a: usize) -> i32
     requires sizes { AreSmall row.now.predicted }
     requires in_range { HasCodes row.now.codes }
     requires column { row.now.before + a < 8 }
-    ensures { result ≡ row_value row.now.predicted row.now.before row.now.codes row.now.step a }
+    ensures value { result ≡ row_value row.now.predicted row.now.before row.now.codes row.now.step a }
+    ensures size { IsAtMost 33474560 result }
 {
     value_by(row.predicted[row.before + a], row.codes[a], row.step)
 }
@@ -130,6 +132,55 @@ fn height_in(row: &Row, a: usize) -> Result<i16, PieceFault>
         });
     }
     Ok(bring(value))
+}
+
+// A value less -32768, the lowest height of 16 bits, which is below 65536 where the value is such a height.
+#[inline]
+fn raised(value: i32) -> u32
+    requires { IsAtMost 33474560 value }
+    ensures { result < 65536 → value ≡ pos result -ℤ pos 32768 }
+{
+    ((value + 67_141_632) as u32).wrapping_sub(67_108_864)
+}
+
+// The height of a raised value that is below 65536.
+#[inline]
+fn lowered(raised: u32) -> i16
+    ensures { raised < 65536 → result ≡ pos raised -ℤ pos 32768 }
+{
+    ((raised & 0xffff) as i32 - 32768) as i16
+}
+
+// The heights of a row of eight cells, if all of their values are heights of 16 bits. One test tells that.
+#[inline]
+fn exact_row(row: &Row) -> Option<[i16; 8]>
+    requires sizes { AreSmall row.now.predicted }
+    requires in_range { HasCodes row.now.codes }
+    requires whole { row.now.before ≡ 0 }
+    ensures { IfSome result (λ heights. (a : ℕ) → a < 8 → IsExact
+        (row_value row.now.predicted row.now.before row.now.codes row.now.step a) (slice_index_or heights a (pos 0))) }
+{
+    let mut heights = [0; 8];
+    let mut all = 0;
+    for a in 0..8 {
+        let raised = raised(value_in(row, a));
+        heights[a] = lowered(raised);
+        all |= raised;
+    }
+    if all >= 65536 {
+        return None;
+    }
+    Some(heights)
+}
+
+// Writes eight heights from place `start` on.
+#[inline]
+fn put_row(out: &mut [i16], start: usize, heights: [i16; 8])
+    requires { start + 8 ≤ length out.old }
+    ensures row { (a : ℕ) → a < 8 → slice_index_or out.new (start + a) (pos 0) ≡ slice_index_or heights a (pos 0) }
+    ensures kept { (k : ℕ) → k < start → slice_index_or out.new k (pos 0) ≡ slice_index_or out.old k (pos 0) }
+{
+    out[start..start + 8].copy_from_slice(&heights);
 }
 
 // Writes the heights of row `b` of a block's cells in the terrain from place `start` on, behind those of the rows
@@ -172,6 +223,12 @@ fn fill_row(
         (columns codes.entry.inside * rows codes.entry.inside)) }
 {
     let row = row_at(codes, b);
+    if width == 8 {
+        if let Some(heights) = exact_row(&row) {
+            put_row(out, start, heights);
+            return Ok(());
+        }
+    }
     for a in 0..width {
         let height = height_in(&row, a)?;
         out[start + a] = height;

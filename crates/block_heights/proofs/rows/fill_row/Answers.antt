@@ -1,4 +1,4 @@
-use Rattle.std.proofs.Common.{◌≡◌, ◌+◌, ◌*◌, ◌<◌, ◌∙◌, ℕ, ℤ, pos, ◌+ℤ◌, length, set, refl, ap, subst, rules, arith}
+use Rattle.std.proofs.Common.{◌≡◌, ◌+◌, ◌*◌, ◌<◌, ◌≤◌, ◌∙◌, ℕ, ℤ, pos, ◌+ℤ◌, length, set, refl, ap, subst, rules, arith}
 use Rattle.std.specs.Int.{w16}
 use Rattle.std.proofs.lemmas.Int.{to_z-of_z}
 use Rattle.std.proofs.lemmas.Result.{err_from_is_err_and}
@@ -10,6 +10,7 @@ use Rattle.block_heights.specs.Rows.{table_code}
 use Rattle.block_heights.specs.Pieces.{within, coded_height, IsPieceUpTo, AreNearUpTo, row_value}
 use Rattle.block_heights.proofs.Cells.{piece_more, near_more}
 use Rattle.block_heights.proofs.WholeRows.{column_in, row_in, height_here, near_here, out_here, out_same}
+use Rattle.block_heights.proofs.ExactRows.{exact_heights, exact_are_near}
 use Rattle.block_heights.proofs.rows.fill_row.Goals as goal
 
 pub loop-a-preserved : goal.loop-a-preserved
@@ -88,3 +89,30 @@ returns-clause-heights c = λ k h. c.loop-a.invariant.heights k (omega (arith, h
 
 pub returns-clause-near : goal.returns-clause-near
 returns-clause-near c = λ k h. c.loop-a.invariant.near k (omega (arith, h))
+
+pub returns-in-Some-clause-heights : goal.returns-in-Some-clause-heights
+returns-in-Some-clause-heights c =
+    let region = c.args.codes.inside in
+    let coarser = patch_height c.args.codes.patch.now in
+    let code = table_code region c.args.codes.table.now in
+    let row = c.row_at-row in
+    let r = row.result in
+    let value = λ (a : ℕ). row_value r.predicted r.before r.codes r.step a in
+    let w = c.args.width in
+    let eight : w ≡ 8 = c.if-width-eq8.true in
+    let first : r.before ≡ 0 = omega (arith, row.ensures.room, c.requires.width, eight) in
+    let room : c.args.start + w ≤ columns region * rows region = omega (arith, c.requires.room, c.requires.places) in
+    exact_heights coarser c.args.codes.step code region w c.args.b c.args.start value c.args.out.now c.put_row.new.out c.in-Some.heights c.requires.inside c.requires.width c.requires.start eight room (λ (a : ℕ) (few : a < 8). row.ensures.values a (omega (arith, first, few))) c.in-Some.ensures c.put_row.ensures.row c.put_row.ensures.kept c.requires.heights
+
+pub returns-in-Some-clause-near : goal.returns-in-Some-clause-near
+returns-in-Some-clause-near c =
+    let region = c.args.codes.inside in
+    let coarser = patch_height c.args.codes.patch.now in
+    let code = table_code region c.args.codes.table.now in
+    let row = c.row_at-row in
+    let r = row.result in
+    let value = λ (a : ℕ). row_value r.predicted r.before r.codes r.step a in
+    let w = c.args.width in
+    let eight : w ≡ 8 = c.if-width-eq8.true in
+    let first : r.before ≡ 0 = omega (arith, row.ensures.room, c.requires.width, eight) in
+    exact_are_near coarser c.args.codes.step code region w c.args.b c.args.start value c.in-Some.heights c.requires.width c.requires.start eight (λ (a : ℕ) (few : a < 8). row.ensures.values a (omega (arith, first, few))) c.in-Some.ensures c.requires.near

@@ -19,18 +19,18 @@ returns-then-not-is_near-clause-far c =
     let value_fits : SFits w32 c.value_in-value.result = record { sfits = c.value_in-value.type_inv } in (
       read_sum row.cell.i (to_z w32 a) a a_is i_fits sum_fits,
       to_z-of_z w32 row.cell.j j_fits,
-      to_z-of_z w32 c.value_in-value.result value_fits ∙ c.value_in-value.ensures,
+      to_z-of_z w32 c.value_in-value.result value_fits ∙ c.value_in-value.ensures.value,
       λ near. false≢true (sym c.if-not-is_near.true ∙ c.is_near.ensures.1 near),
     )
 
 pub returns-clause-near : goal.returns-clause-near
 returns-clause-near c =
     let value_fits : SFits w32 c.value_in-value.result = record { sfits = c.value_in-value.type_inv } in
-    subst (IsNear c.args.row.now.step) (to_z-of_z w32 c.value_in-value.result value_fits ∙ c.value_in-value.ensures) (c.is_near.ensures.0 c.if-not-is_near.false)
+    subst (IsNear c.args.row.now.step) (to_z-of_z w32 c.value_in-value.result value_fits ∙ c.value_in-value.ensures.value) (c.is_near.ensures.0 c.if-not-is_near.false)
 
 pub returns-clause-height : goal.returns-clause-height
 returns-clause-height c =
     let value_fits : SFits w32 c.value_in-value.result = record { sfits = c.value_in-value.type_inv } in
     same16 c.bring.result c.bring.type_inv
     ∙ c.bring.ensures.value
-    ∙ ap brought (to_z-of_z w32 c.value_in-value.result value_fits ∙ c.value_in-value.ensures)
+    ∙ ap brought (to_z-of_z w32 c.value_in-value.result value_fits ∙ c.value_in-value.ensures.value)

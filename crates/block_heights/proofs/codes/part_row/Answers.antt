@@ -5,8 +5,8 @@ use mir.Val.{to_z, of_z}
 use Rattle.rice_residuals.specs.Code.{IsResidual}
 use Rattle.block_heights.specs.Rows.{row_values, IsCodeRow, HasCodes}
 use Rattle.block_heights.proofs.CodedRows.{count_more_coded, count_more_even, count_mono, row_more_coded, row_more_even, even_more, codes_more, residual_fits}
-use Rattle.block_heights.proofs.codes.code_row.Goals as goal
-use Rattle.block_heights.proofs.codes.code_row.Goals.{then-is_coded_in, else-is_coded_in}
+use Rattle.block_heights.proofs.codes.part_row.Goals as goal
+use Rattle.block_heights.proofs.codes.part_row.Goals.{then-is_coded_in, else-is_coded_in}
 
 pub bounds-values-used : goal.bounds-values-used
 bounds-values-used c =

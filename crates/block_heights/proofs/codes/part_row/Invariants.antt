@@ -1,6 +1,6 @@
 use Rattle.std.proofs.Common.{◌≡◌, length, take}
 use Rattle.block_heights.specs.Rows.{coded_columns, row_values, IsCodeRow, HasCodes}
-use Rattle.block_heights.proofs.codes.code_row.Given as goal
+use Rattle.block_heights.proofs.codes.part_row.Given as goal
 
 abbrev pub invariant-loop-a : goal.invariant-loop-a
 invariant-loop-a l = record {
