@@ -1,9 +1,12 @@
 -- A sample of a table, and the samples of a level.
-use Rattle.std.proofs.Common.{◌≡◌, ℕ, ℤ, pos, negsuc, neg_ℤ, nat_abs, ◌+◌, ◌*◌, ◌^◌, ◌<◌, ◌≤ℤ◌, ◌*ℤ◌, ◌&&◌, Bool, true, false, cond, ltb, length, get_or, sym, ◌∙◌, refl, subst, arith}
+use Rattle.std.proofs.Common.{◌≡◌, ℕ, ℤ, pos, negsuc, neg_ℤ, nat_abs, ◌+◌, ◌*◌, ◌^◌, ◌<◌, ◌≤ℤ◌, ◌*ℤ◌, ◌&&◌, Bool, true, false, cond, ltb, length, get_or, ap, ap₂, add_assoc, mul_comm, List, ◌≤◌, sym, ◌∙◌, refl, subst, arith}
 use Rattle.std.specs.Int.{w16, w32}
 use Rattle.std.proofs.lemmas.Bool.Decides.{nat_tests}
 use Rattle.std.proofs.lemmas.Int.{ints, to_z-of_z}
 use Rattle.std.proofs.lemmas.List.{get_or_default}
+use Rattle.std.specs.List.{between}
+use Rattle.std.proofs.lemmas.List.Edits.{get_or-between}
+use Rattle.std.proofs.Math.Nat.{mul-le-mul_right}
 use Rattle.std.proofs.lemmas.Nat.{mul-add-lt}
 use lib.Signed.{lt_z}
 use mir.Val.{SFits, to_z, of_z}
@@ -47,3 +50,31 @@ unfolding level_height
 level_by_sample terrain level i j spacing height e read =
     let P : ℤ → Type 0 = λ s. height ≡ height_at terrain (i *ℤ s) (j *ℤ s) in
     subst P e read
+
+-- ---- the finest level
+once : (x : ℕ) → pos x ≡ pos x *ℤ pos (2 ^ 0)
+once x = omega (arith, ints)
+
+-- the height of a cell that lies inside
+pub level_at : (terrain : Terrain) (x y : ℕ) → x < terrain.width → y < terrain.height → get_or terrain.table (y * terrain.width + x) (pos 0) ≡ level_height terrain 0 (pos x) (pos y)
+unfolding height_at level_height
+level_at terrain x y x_in y_in =
+    inside (ltb x terrain.width) (ltb y terrain.height) (get_or terrain.table (y * terrain.width + x) (pos 0)) (grind (arith, nat_tests)) (grind (arith, nat_tests))
+    ∙ ap₂ (height_at terrain) (once x) (once y)
+
+-- so many columns from one on, of a row inside, are in the table
+pub part_in : (terrain : Terrain) (x y n : ℕ) → IsTerrain terrain → x + n ≤ terrain.width → y < terrain.height → y * terrain.width + x + n ≤ length terrain.table
+part_in terrain x y n sound across down =
+    let room : (y + 1) * terrain.width ≤ terrain.height * terrain.width = mul-le-mul_right terrain.width (omega arith) in
+    let parts : (y + 1) * terrain.width ≡ y * terrain.width + terrain.width = grind arith in
+    let turned : terrain.height * terrain.width ≡ terrain.width * terrain.height = mul_comm terrain.height terrain.width in
+    omega (arith, room, parts, turned, sound.whole_table)
+
+-- a row that was copied
+pub copied : (terrain : Terrain) (x y n : ℕ) (out : List ℤ) → x + n ≤ terrain.width → y < terrain.height → out ≡ between (y * terrain.width + x) (y * terrain.width + x + n) terrain.table → (k : ℕ) → k < n → get_or out k (pos 0) ≡ level_height terrain 0 (pos (x + k)) (pos y)
+copied terrain x y n out across down e k few =
+    let start = y * terrain.width + x in
+    ap (λ (xs : List ℤ). get_or xs k (pos 0)) e
+    ∙ get_or-between terrain.table start (start + n) k (pos 0) (omega arith)
+    ∙ ap (λ (i : ℕ). get_or terrain.table i (pos 0)) (add_assoc (y * terrain.width) x k)
+    ∙ level_at terrain (x + k) y (omega arith) down

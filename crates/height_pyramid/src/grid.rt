@@ -1,6 +1,6 @@
 //! A table of heights, seen at any level.
 
-ghost use Rattle.std.specs.Prelude.{◌≡◌, ◌*◌, ◌^◌, ◌<◌, ◌≤◌, length, vec_len, pos, ◌≤ℤ◌};
+ghost use Rattle.std.specs.Prelude.{◌≡◌, ◌+◌, ◌*◌, ◌^◌, ◌<◌, ◌≤◌, ℕ, length, vec_len, pos, ◌≤ℤ◌, slice_index_or};
 
 use crate::extremes::{Extremes, extremes_of};
 use std::marker::Model;
@@ -111,6 +111,18 @@ impl Grid {
     {
         let spacing = spacing(level);
         self.sample(i * spacing, j * spacing)
+    }
+
+    /// Copies heights of row `row` of the finest level, from column `column` on, in metres: as many as there are places,
+    /// which all lie in the grid.
+    pub fn copy_row(&self, column: u32, row: u32, out: &mut [i16])
+        requires columns { column + length out.old ≤ self.now.width }
+        requires row { row < self.now.height }
+        ensures { (k : ℕ) → k < length out.new → slice_index_or out.new k (pos 0) ≡
+            level_height self.now 0 (pos (column + k)) (pos row) }
+    {
+        let start = row as usize * self.width as usize + column as usize;
+        out.copy_from_slice(&self.heights[start..start + out.len()]);
     }
 
     // The height at column `x` and row `y`, and 0 outside the grid.

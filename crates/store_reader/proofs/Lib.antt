@@ -8,3 +8,4 @@ pub mod TableLemmas
 pub mod LevelLemmas
 pub mod BlockLists
 pub mod Stores
+pub mod PatchLemmas

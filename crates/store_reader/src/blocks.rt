@@ -1,6 +1,6 @@
 //! One block: its bytes in the store, and its heights.
 
-ghost use Rattle.std.specs.Prelude.{◌≡◌, ◌≢◌, ◌+◌, ◌*◌, ◌^◌, ◌<◌, ◌≤◌, ◌++◌, ℤ, length, drop, pos, ◌-ℤ◌, ◌+ℤ◌, ◌*ℤ◌, ◌≤ℤ◌, OnOk, IfErr, IfSome, IfNone};
+ghost use Rattle.std.specs.Prelude.{◌≡◌, ◌≢◌, ◌+◌, ◌*◌, ◌^◌, ◌<◌, ◌≤◌, ◌++◌, ℤ, length, drop, pos, ◌-ℤ◌, ◌+ℤ◌, ◌*ℤ◌, ◌≤ℤ◌, OnOk, IfErr, IfSome, IfNone, ℕ, slice_index_or};
 ghost use Rattle.clip_regions.specs.Regions.{area};
 ghost use Rattle.terrain_model.specs.Terrain.{level_height};
 ghost use Rattle.four_point.specs.Patches.{patch_height, IsOfBlock};
@@ -60,6 +60,47 @@ pub(crate) fn content_at(bytes: &[u8], at: usize) -> Option<&[u8]>
     Some(&rest[2..2 + length])
 }
 
+// Seven heights of a row of a level, which lie in it.
+#[inline]
+fn row_of(grid: &Grid, column: u32, row: u32) -> [i16; 7]
+    requires columns { column + 7 ≤ grid.now.width }
+    requires row { row < grid.now.height }
+    ensures { (a : ℕ) → a < 7 → slice_index_or result a (pos 0) ≡
+        level_height grid.now 0 (pos (column + a)) (pos row) }
+{
+    let mut heights = [0; 7];
+    grid.copy_row(column, row, &mut heights);
+    heights
+}
+
+// The patch of a block that begins at a column and a row and lies in the level whole.
+fn inner_patch(grid: &Grid, column: u32, row: u32) -> Patch
+    requires columns { column + 7 ≤ grid.now.width }
+    requires rows { row + 7 ≤ grid.now.height }
+    requires east { column ≤ 2 ^ 26 }
+    requires south { row ≤ 2 ^ 26 }
+
+    // It has its place, and predicts as the level does.
+    ensures column { result.i0 ≡ pos column }
+    ensures row { result.j0 ≡ pos row }
+    ensures predictions { (i j : ℤ) → IsOfBlock (pos column) i → IsOfBlock (pos row) j
+        → prediction (patch_height result) i j ≡ prediction (level_height grid.now 0) i j }
+{
+    Patch {
+        i0: column as i32,
+        j0: row as i32,
+        h: [
+            row_of(grid, column, row),
+            row_of(grid, column, row + 1),
+            row_of(grid, column, row + 2),
+            row_of(grid, column, row + 3),
+            row_of(grid, column, row + 4),
+            row_of(grid, column, row + 5),
+            row_of(grid, column, row + 6),
+        ],
+    }
+}
+
 // The patch of a block over the heights of the next coarser level.
 fn patch_over(grid: &Grid, bx: i32, by: i32) -> Patch
     requires west { pos 0 ≤ℤ bx }
@@ -73,6 +114,12 @@ fn patch_over(grid: &Grid, bx: i32, by: i32) -> Patch
     ensures predictions { (i j : ℤ) → IsOfBlock (pos 4 *ℤ bx -ℤ pos 1) i → IsOfBlock (pos 4 *ℤ by -ℤ pos 1) j
         → prediction (patch_height result) i j ≡ prediction (level_height grid.now 0) i j }
 {
+    if bx > 0 && by > 0 {
+        let (column, row) = (4 * bx as u32 - 1, 4 * by as u32 - 1);
+        if column + 7 <= grid.width() && row + 7 <= grid.height() {
+            return inner_patch(grid, column, row);
+        }
+    }
     patch_around(&Coarser { grid }, 4 * bx - 1, 4 * by - 1)
 }
 
