@@ -3,9 +3,9 @@ pub mod Fetching
 pub mod Following
 pub mod Lists
 pub mod Mosaics
-pub mod Played
 pub mod Readings
 pub mod Sourced
+pub mod Staging
 pub mod Standing
 pub mod Statuses
 pub mod Tiles

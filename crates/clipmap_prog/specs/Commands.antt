@@ -1,9 +1,11 @@
 -- What the words of a command line do.
 use Rattle.std.specs.Prelude.{ℕ, List, [], Option, None, Some}
 use Rattle.outer_shelf.specs.Outside.{Files, ShelfTold}
-use Rattle.clipmap_words.specs.Commands.{CommandView, Check, Frame, Info, Pack, PackBy, Play, command_of}
+use Rattle.clipmap_words.specs.Commands.{CommandView, Check, Demo, Fly, Frame, Info, Pack, PackBy, Play, command_of}
 use Rattle.clipmap_prog.specs.Check.{check_outcome}
+use Rattle.clipmap_prog.specs.Demo.{demo_outcome}
 use Rattle.clipmap_prog.specs.Faults.{Words}
+use Rattle.clipmap_prog.specs.Fly.{fly_outcome}
 use Rattle.clipmap_prog.specs.Frame.{frame_outcome}
 use Rattle.clipmap_prog.specs.Info.{info_outcome}
 use Rattle.clipmap_prog.specs.Pack.{pack_outcome, pack_by_outcome}
@@ -14,6 +16,8 @@ use Rattle.clipmap_prog.specs.Stores.{ByVerdict, Verdict}
 -- what a command does with these files, by the verdict on the file of its store
 abbrev pub command_outcome : Verdict → CommandView → Files → Outcome
 command_outcome verdict (Check check) files = check_outcome check files
+command_outcome verdict (Demo demo) files = demo_outcome demo files
+command_outcome verdict (Fly fly) files = fly_outcome verdict fly files
 command_outcome verdict (Frame frame) files = frame_outcome verdict frame files
 command_outcome verdict (Info info) files = info_outcome verdict info files
 command_outcome verdict (Pack pack) files = pack_outcome pack files
@@ -32,6 +36,8 @@ outcome verdict words files = outcome_of verdict (command_of words) files
 -- the inputs of a command that may be a store
 abbrev pub store_inputs : CommandView → List (List ℕ)
 store_inputs (Check check) = []
+store_inputs (Demo demo) = []
+store_inputs (Fly fly) = fly.inputs
 store_inputs (Frame frame) = frame.inputs
 store_inputs (Info info) = info.inputs
 store_inputs (Pack pack) = []

@@ -1,6 +1,8 @@
 pub mod Check
 pub mod Commands
+pub mod Demo
 pub mod Faults
+pub mod Fly
 pub mod Frame
 pub mod Info
 pub mod Inputs
@@ -11,6 +13,7 @@ pub mod Play
 pub mod Program
 pub mod Promise
 pub mod Reading
+pub mod Scripts
 pub mod Sources
 pub mod Stores
 pub mod Verdicts

@@ -2,7 +2,9 @@
 #![tactic(auto)]
 
 mod check;
+mod demo;
 mod fault;
+mod fly;
 mod frame;
 mod grounds;
 mod info;

@@ -7,6 +7,8 @@ ghost use Rattle.run_actions.specs.Runs.{HadReason};
 ghost use Rattle.clipmap_prog.specs.Stores.{ByVerdict};
 
 use crate::check::run_check;
+use crate::demo::run_demo;
+use crate::fly::run_fly;
 use crate::frame::run_frame;
 use crate::info::run_info;
 use crate::pack::{run_pack, run_pack_by};
@@ -35,6 +37,8 @@ pub(crate) fn run<R: Threads + Sync, S: Shelf, K: Sink>(
 {
     match command {
         Command::Check(check) => run_check(alloc, check, shelf, out),
+        Command::Demo(demo) => run_demo(rt, alloc, demo, shelf, out),
+        Command::Fly(fly) => run_fly(rt, alloc, fly, shelf, out),
         Command::Frame(frame) => run_frame(rt, alloc, frame, shelf, out),
         Command::Info(info) => run_info(alloc, info, shelf, out),
         Command::Pack(pack) => run_pack(alloc, pack, shelf, out),

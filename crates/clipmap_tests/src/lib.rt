@@ -5,6 +5,10 @@
 #[cfg(test)]
 mod checks;
 #[cfg(test)]
+mod demos;
+#[cfg(test)]
+mod flights;
+#[cfg(test)]
 mod frames;
 #[cfg(test)]
 mod levels;

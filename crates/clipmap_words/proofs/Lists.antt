@@ -4,6 +4,7 @@ use Rattle.std.specs.List.{list_all, list_any}
 use Rattle.std.proofs.lemmas.List.{length-map}
 use Rattle.std.proofs.lemmas.List.Folds.{list_all-map}
 use Rattle.clipmap_words.specs.Names.{is_name, is_store, is_inputs}
+use Rattle.clipmap_words.specs.Fly.{fly_of}
 use Rattle.clipmap_words.specs.Frame.{frame_of}
 use Rattle.clipmap_words.specs.Pack.{pack_of}
 use Rattle.clipmap_words.specs.PackBy.{pack_by_of}
@@ -28,6 +29,14 @@ unfolding pack_of
 pack_of_few [] few = refl
 pack_of_few (_ ∷ []) few = refl
 pack_of_few (_ ∷ _ ∷ rest) few = absurd (omega arith)
+
+-- fewer than three words are no flight
+pub fly_of_few : (words : List (List ℕ)) → length words < 3 → fly_of words ≡ None
+unfolding fly_of
+fly_of_few [] few = refl
+fly_of_few (_ ∷ []) few = refl
+fly_of_few (_ ∷ _ ∷ []) few = refl
+fly_of_few (_ ∷ _ ∷ _ ∷ rest) few = absurd (omega arith)
 
 pub pack_by_of_few : (words : List (List ℕ)) → length words < 3 → pack_by_of words ≡ None
 unfolding pack_by_of

@@ -1,5 +1,7 @@
 pub mod Check
 pub mod Commands
+pub mod Demo
+pub mod Fly
 pub mod Frame
 pub mod Info
 pub mod Names

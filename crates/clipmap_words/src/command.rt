@@ -4,6 +4,8 @@ ghost use Rattle.std.specs.Option.{option_map};
 ghost use Rattle.clipmap_words.specs.Commands.{IsInRange, command_of, view_of};
 
 use crate::check::{CheckWords, read_check};
+use crate::demo::{DemoWords, read_demo};
+use crate::fly::{FlyWords, read_fly};
 use crate::frame::{FrameWords, read_frame};
 use crate::info::{InfoWords, read_info};
 use crate::pack::{PackWords, read_pack};
@@ -15,6 +17,10 @@ use crate::play::{PlayWords, read_play};
 pub enum Command<'a> {
     /// The verdict on a frame's text: `check FILE`.
     Check(CheckWords<'a>),
+    /// A flight over a terrain of its own, of which one line tells: `demo SEED`.
+    Demo(DemoWords),
+    /// A flight in rounds of so many workers over tiles or a store: `fly N SCRIPT OUT INPUT+`.
+    Fly(FlyWords<'a>),
     /// One frame of whole windows: `frame K L X Y OUT INPUT+`.
     Frame(FrameWords<'a>),
     /// What is known of tiles or of a store: `info INPUT+`.
@@ -37,6 +43,15 @@ pub fn read_words<'a>(words: &'a [String]) -> Option<Command<'a>>
     };
     if name.as_str() == "check" {
         return read_check(words).map(Command::Check);
+    }
+    if name.as_str() == "demo" {
+        return match read_demo(words) {
+            Some(demo) => Some(Command::Demo(demo)),
+            None => None,
+        };
+    }
+    if name.as_str() == "fly" {
+        return read_fly(words).map(Command::Fly);
     }
     if name.as_str() == "frame" {
         return read_frame(words).map(Command::Frame);

@@ -6,6 +6,8 @@
 
 mod check;
 mod command;
+mod demo;
+mod fly;
 mod frame;
 mod info;
 mod names;
@@ -18,6 +20,8 @@ mod tests;
 
 pub use check::CheckWords;
 pub use command::{Command, read_words};
+pub use demo::DemoWords;
+pub use fly::FlyWords;
 pub use frame::FrameWords;
 pub use info::InfoWords;
 pub use names::{INPUTS_LIMIT, NAME_LIMIT, is_store_name};

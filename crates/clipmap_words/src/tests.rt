@@ -61,6 +61,16 @@ fn told(alloc: Global, words: &[&str]) -> Result<String, Fail> {
                 play.inputs.len()
             )
         }
+        Some(Command::Fly(fly)) => {
+            format!(in alloc;
+                "fly {} {} {} of {}",
+                fly.workers,
+                fly.script,
+                fly.out,
+                fly.inputs.len()
+            )
+        }
+        Some(Command::Demo(demo)) => format!(in alloc; "demo {}", demo.seed),
         Some(Command::Check(check)) => format!(in alloc; "check {}", check.file),
         Some(Command::Frame(_)) => format!(in alloc; "frame"),
         None => format!(in alloc; "none"),
@@ -70,7 +80,22 @@ fn told(alloc: Global, words: &[&str]) -> Result<String, Fail> {
 
 #[test]
 fn reads_the_other_commands(rt: HostRuntime) -> Result<(), Fail> {
-    let table: [(&[&str], &str); 28] = [
+    let table: [(&[&str], &str); 40] = [
+        (&["fly", "15", "s", "o", "a.hgt"], "fly 15 s o of 1"),
+        (&["fly", "1", "s", "o", "a", "b"], "fly 1 s o of 2"),
+        (&["fly", "0", "s", "o", "a.hgt"], "none"),
+        (&["fly", "16", "s", "o", "a.hgt"], "none"),
+        (&["fly", "2", "s", "o"], "none"),
+        (&["fly", "s", "o", "a.hgt"], "none"),
+        (&["demo", "0"], "demo 0"),
+        (
+            &["demo", "18446744073709551615"],
+            "demo 18446744073709551615",
+        ),
+        (&["demo", "18446744073709551616"], "none"),
+        (&["demo", "-1"], "none"),
+        (&["demo"], "none"),
+        (&["demo", "0", "0"], "none"),
         (&["play", "s", "o", "a.hgt", "b"], "play s o of 2"),
         (&["play", "s", "o", "a.gct"], "play s o of 1"),
         (&["play", "s", "o"], "none"),

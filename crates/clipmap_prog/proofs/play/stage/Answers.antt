@@ -2,13 +2,13 @@ use Rattle.std.proofs.Common.{◌≡◌, Ok, Err}
 use Rattle.outer_shelf.specs.Outside.{Files}
 use Rattle.run_actions.specs.Runs.{CallsWithin}
 use Rattle.terrain_store.specs.Stores.{land_of}
-use Rattle.clip_script.specs.Scripts.{Play, play_view as script_view}
+use Rattle.clip_script.specs.Scripts.{Play, play_of, play_view as script_view}
 use Rattle.clipmap_words.specs.Play.{PlayView, play_view}
 use Rattle.clipmap_prog.specs.Lands.{land_reading}
-use Rattle.clipmap_prog.specs.Play.{stage_view}
+use Rattle.clipmap_prog.specs.Play.{levels_of, stage_view}
 use Rattle.clipmap_prog.specs.Reading.{Finds}
 use Rattle.clipmap_prog.specs.Stores.{IsVerdictOn}
-use Rattle.clipmap_prog.proofs.Played.{there, back, script_stops, script_calls, stage_found, land_stops, stage_calls}
+use Rattle.clipmap_prog.proofs.Staging.{there, back, script_stops, script_calls, stage_found, land_stops, stage_calls}
 use Rattle.clipmap_prog.proofs.play.stage.Goals as goal
 
 pub returns-in-Ok-read_land-clause-found : goal.returns-in-Ok-read_land-clause-found
@@ -19,7 +19,7 @@ returns-in-Ok-read_land-clause-found g c = λ verdict right.
     let later = (g.S.Shelf.told c.fetch_script.new.shelf).files in
     let IsRight : Files → Type 0 = λ m. IsVerdictOn play.inputs m verdict in
     let IsFound : Files → Type 0 = λ m. (land_reading verdict play.inputs script.levels m).found ≡ Ok (land_of c.in-Ok-read_land.store) in
-    stage_found verdict play files script c.in-Ok.ensures.found (land_of c.in-Ok-read_land.store)
+    stage_found play_of levels_of verdict play.script play.inputs files script c.in-Ok.ensures.found (land_of c.in-Ok-read_land.store)
     (back files later IsFound c.in-Ok.ensures.files_stay (c.in-Ok-read_land.ensures.found verdict (there files later IsRight c.in-Ok.ensures.files_stay right)))
 
 pub returns-in-Ok-read_land-clause-calls : goal.returns-in-Ok-read_land-clause-calls
@@ -30,7 +30,7 @@ returns-in-Ok-read_land-clause-calls g c = λ verdict.
     let mid = g.S.Shelf.told c.fetch_script.new.shelf in
     let now = g.S.Shelf.told c.read_land.new.shelf in
     let Few : Files → Type 0 = λ m. CallsWithin (land_reading verdict play.inputs script.levels m).fetches mid.calls now.calls in
-    stage_calls verdict play before.files script c.in-Ok.ensures.found before.calls mid.calls now.calls c.in-Ok.ensures.counted
+    stage_calls play_of levels_of verdict play.script play.inputs before.files script c.in-Ok.ensures.found before.calls mid.calls now.calls c.in-Ok.ensures.counted
     (back before.files mid.files Few c.in-Ok.ensures.files_stay (c.in-Ok-read_land.ensures.calls verdict))
 
 pub returns-in-Err-read_land-clause-found : goal.returns-in-Err-read_land-clause-found
@@ -41,7 +41,7 @@ returns-in-Err-read_land-clause-found g c = λ verdict right.
     let later = (g.S.Shelf.told c.fetch_script.new.shelf).files in
     let IsRight : Files → Type 0 = λ m. IsVerdictOn play.inputs m verdict in
     let IsStopped : Files → Type 0 = λ m. Finds land_of (Err c.in-Err-read_land.stop) (land_reading verdict play.inputs script.levels m).found in
-    land_stops verdict play files script c.in-Ok.ensures.found land_of stage_view c.in-Err-read_land.stop
+    land_stops play_of levels_of verdict play.script play.inputs files script c.in-Ok.ensures.found land_of stage_view c.in-Err-read_land.stop
     (back files later IsStopped c.in-Ok.ensures.files_stay (c.in-Err-read_land.ensures.found verdict (there files later IsRight c.in-Ok.ensures.files_stay right)))
 
 pub returns-in-Err-read_land-clause-calls : goal.returns-in-Err-read_land-clause-calls
@@ -52,13 +52,13 @@ returns-in-Err-read_land-clause-calls g c = λ verdict.
     let mid = g.S.Shelf.told c.fetch_script.new.shelf in
     let now = g.S.Shelf.told c.read_land.new.shelf in
     let Few : Files → Type 0 = λ m. CallsWithin (land_reading verdict play.inputs script.levels m).fetches mid.calls now.calls in
-    stage_calls verdict play before.files script c.in-Ok.ensures.found before.calls mid.calls now.calls c.in-Ok.ensures.counted
+    stage_calls play_of levels_of verdict play.script play.inputs before.files script c.in-Ok.ensures.found before.calls mid.calls now.calls c.in-Ok.ensures.counted
     (back before.files mid.files Few c.in-Ok.ensures.files_stay (c.in-Err-read_land.ensures.calls verdict))
 
 pub returns-in-Err-clause-found : goal.returns-in-Err-clause-found
 returns-in-Err-clause-found g c = λ verdict right.
-    script_stops verdict (play_view c.args.play.now) (g.S.Shelf.told c.args.shelf.now).files script_view stage_view c.in-Err.stop c.in-Err.ensures.found
+    script_stops play_of levels_of verdict (play_view c.args.play.now).script (play_view c.args.play.now).inputs (g.S.Shelf.told c.args.shelf.now).files script_view stage_view c.in-Err.stop c.in-Err.ensures.found
 
 pub returns-in-Err-clause-calls : goal.returns-in-Err-clause-calls
 returns-in-Err-clause-calls g c = λ verdict.
-    script_calls verdict (play_view c.args.play.now) (g.S.Shelf.told c.args.shelf.now).files (g.S.Shelf.told c.args.shelf.now).calls (g.S.Shelf.told c.fetch_script.new.shelf).calls c.in-Err.ensures.counted
+    script_calls play_of levels_of verdict (play_view c.args.play.now).script (play_view c.args.play.now).inputs (g.S.Shelf.told c.args.shelf.now).files (g.S.Shelf.told c.args.shelf.now).calls (g.S.Shelf.told c.fetch_script.new.shelf).calls c.in-Err.ensures.counted
