@@ -7,6 +7,10 @@ pub struct Grid {
 }
 
 impl Grid {
+    pub fn new(side: i32, heights: Vec<i16>) -> Grid {
+        Grid { side, heights }
+    }
+
     // 1201 x 1201 samples, those of bench/book.sh.
     pub fn made() -> Grid {
         let heights = (0..1201 * 1201u32).map(|n| ((n.wrapping_mul(40503) >> 9) % 4096) as i16);

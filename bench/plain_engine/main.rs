@@ -3,10 +3,12 @@
 //!     plain_engine play SCRIPT OUT STORE
 //!     plain_engine frame K L X Y OUT STORE
 //!     plain_engine settle COUNT           settles so many books over made terrain, as bench/book.sh does
+//!     plain_engine demo SEED              flies the demo's flight for nobody, and writes its line
 //!
 //! It reads stores of the first version, has one thread and one pass at a time in mind, and trusts its script.
 mod book;
 mod commands;
+mod demo;
 mod grid;
 mod mesh;
 mod region;
@@ -23,6 +25,10 @@ fn main() -> io::Result<()> {
     let numbers: Vec<i32> = words[1..].iter().map(|word| word.parse().unwrap_or(0)).collect();
     if command == "settle" {
         commands::settle_books(numbers[0] as u32);
+        return Ok(());
+    }
+    if command == "demo" {
+        demo::demo(words.get(1).and_then(|word| word.parse().ok()).unwrap_or(0));
         return Ok(());
     }
     let Some(store) = Store::read(fs::read(&words[words.len() - 1])?) else {
