@@ -1,4 +1,5 @@
 pub mod Concluding
+pub mod Demos
 pub mod Fetching
 pub mod Following
 pub mod Lists

@@ -69,7 +69,7 @@ fn fly_seed<R: Threads + Sync, S: Shelf, K: Sink>(
     }
 }
 
-/// Runs a `demo`. `Ok` is the status 0.
+// Runs a `demo`. `Ok` is the status 0.
 pub(crate) fn run_demo<R: Threads + Sync, S: Shelf, K: Sink>(
     rt: &R,
     alloc: Global,

@@ -75,20 +75,22 @@ fn fetch_script<'a, S: Shelf>(
 }
 
 // The script of a `fly`, and then its inputs.
-fn stage<'a, S: Shelf>(
-    alloc: Global,
-    shelf: &mut S,
-    fly: &FlyWords<'a>,
-) -> Result<Staged, Stop<'a>>
+fn stage<'a, S: Shelf>(alloc: Global, shelf: &mut S, fly: &FlyWords<'a>) -> Result<Staged, Stop<'a>>
     requires few_inputs { length fly.now.inputs.now ≤ 64 }
+
+    // It finds what the definition's reading finds, by as many calls at most.
     ensures found { ByVerdict (fly_view fly.now).inputs (S.told shelf.old).files
         (λ verdict. IfSome (S.told shelf.old).files (λ files. Finds stage_view result
         (fly_reading verdict (fly_view fly.now) files).found)) }
     ensures calls { (verdict : Verdict) → IfSome (S.told shelf.old).files
         (λ files. CallsWithin (fly_reading verdict (fly_view fly.now) files).fetches
         (S.told shelf.old).calls (S.told shelf.new).calls) }
+
+    // The script is in range for the terrain's levels.
     ensures in_range { IfOk result (λ staged.
         IsScriptInRange (land_of staged.store).levels (script_view staged.script)) }
+
+    // A stop has a reason, and no file changes.
     ensures reason { OnStop result (Rose (S.told shelf.old).faults (S.told shelf.new).faults) }
     ensures files_stay { (S.told shelf.new).files ≡ (S.told shelf.old).files }
     ensures faults_stay { (S.told shelf.old).faults ≤ (S.told shelf.new).faults }
@@ -125,8 +127,8 @@ fn fly_staged<R: Threads + Sync, S: Shelf, K: Sink>(
     ended_by(run_course(rt, alloc, &staged.store, &course, name, shelf, out))
 }
 
-/// Runs a `fly`. `Ok` is the status: 0 where it is done, and 2 where it is refused and the line of its
-/// fault is written.
+// Runs a `fly`. `Ok` is the status: 0 where it is done, and 2 where it is refused and the line of its
+// fault is written.
 pub(crate) fn run_fly<R: Threads + Sync, S: Shelf, K: Sink>(
     rt: &R,
     alloc: Global,
@@ -142,7 +144,10 @@ pub(crate) fn run_fly<R: Threads + Sync, S: Shelf, K: Sink>(
     ensures reason { HadReason result (S.told shelf.old) (S.told shelf.new) (K.told out.old) (K.told out.new) }
 {
     match stage(alloc, shelf, fly) {
-        Ok(staged) => ended(0, fly_staged(rt, alloc, &staged, fly.workers, fly.out, shelf, out)),
+        Ok(staged) => ended(
+            0,
+            fly_staged(rt, alloc, &staged, fly.workers, fly.out, shelf, out),
+        ),
         Err(Stop::Refused(fault)) => ended(2, write_fault(alloc, out, fault)),
         Err(Stop::Halted(halt)) => Err(halt),
     }

@@ -1,0 +1,29 @@
+use Rattle.std.proofs.Common.{Result, List, refl, sym, subst}
+use Rattle.terrain_store.specs.Stores.{land_of}
+use Rattle.clip_script.specs.Scripts.{Fly, fly_view as script_view}
+use Rattle.clip_flights.specs.Flights.{demo_actions}
+use Rattle.run_actions.specs.Actions.{Action}
+use Rattle.run_actions.specs.Runs.{Ran}
+use Rattle.run_actions.specs.declared.halt.Halt.{Halt}
+use Rattle.run_actions.proofs.Ends.{ran_none, within_none}
+use Rattle.clipmap_prog.proofs.Demos.{seed_in_range, seed_is}
+use Rattle.clipmap_prog.proofs.demo.fly_seed.Goals as goal
+
+pub run_course-requires : goal.run_course-requires
+run_course-requires g c =
+    seed_in_range c.args.seed (script_view c.in-Ok.staged.script) (land_of c.in-Ok.staged.store) c.in-Ok.ensures.flight c.in-Ok.ensures.flown
+
+pub returns-in-Ok-clause-ran : goal.returns-in-Ok-clause-ran
+returns-in-Ok-clause-ran g c =
+    let script : Fly = script_view c.in-Ok.staged.script in
+    let land = land_of c.in-Ok.staged.store in
+    let before = g.S.Shelf.told c.args.shelf.now in
+    let now = g.S.Shelf.told c.run_course.new.shelf in
+    let actions : List Action = demo_actions land.terrain script.k script.levels script.lines c.args.seed in
+    let done = subst (λ (r : Result (Unit {0}) Halt). Ran g.S.Shelf.leaves 0 actions r before now (g.K.Sink.told c.args.out.now) (g.K.Sink.told c.run_course.new.out)) (sym c.ended_by.ensures.value) c.run_course.ensures.ran in
+    subst (λ (acts : List Action). Ran g.S.Shelf.leaves 0 acts c.ended_by.result before now (g.K.Sink.told c.args.out.now) (g.K.Sink.told c.run_course.new.out))
+    (seed_is c.args.seed script land c.in-Ok.ensures.flight) done
+
+pub returns-in-Err-clause-ran : goal.returns-in-Err-clause-ran
+returns-in-Err-clause-ran g c =
+    ran_none g.S.Shelf.leaves 0 _ c.in-Err.halt (g.S.Shelf.told c.args.shelf.now) (g.S.Shelf.told c.args.shelf.now) (g.K.Sink.told c.args.out.now) refl (within_none (g.S.Shelf.told c.args.shelf.now).calls (g.S.Shelf.told c.args.shelf.now).calls refl)
