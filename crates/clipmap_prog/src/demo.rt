@@ -1,8 +1,8 @@
 //! The command `demo`.
-ghost use Rattle.std.specs.Prelude.{◌≡◌, ◌⊎◌, All, IfErr, IfOk};
+ghost use Rattle.std.specs.Prelude.{◌≡◌, ◌⊎◌, IfErr, IfOk};
 ghost use Rattle.terrain_store.specs.Stores.{land_of};
-ghost use Rattle.clip_script.specs.Ranges.{IsFlown};
 ghost use Rattle.clip_script.specs.Scripts.{fly_view as script_view};
+ghost use Rattle.clip_runs.specs.Courses.{IsFlyInRange as IsScriptInRange};
 ghost use Rattle.run_actions.specs.declared.halt.Halt.TheVariants.{NoMemory};
 ghost use Rattle.clipmap_words.specs.Demo.{demo_view};
 ghost use Rattle.clipmap_prog.specs.Demo.{IsFlightOf, demo_outcome, seed_actions};
@@ -30,7 +30,8 @@ struct Staged {
 // The flight of a seed, and its terrain, packed.
 fn stage(alloc: Global, seed: u64) -> Result<Staged, Halt>
     ensures flight { IfOk result (λ staged. IsFlightOf seed (script_view staged.script) (land_of staged.store)) }
-    ensures flown { IfOk result (λ staged. All IsFlown staged.script.lines.items) }
+    ensures in_range { IfOk result (λ staged.
+        IsScriptInRange (land_of staged.store).levels (script_view staged.script)) }
     ensures wants { IfErr result (λ halt. halt ≡ NoMemory) }
 {
     let Ok(demo) = demo_of(alloc, seed) else {

@@ -6,12 +6,8 @@ use Rattle.run_actions.specs.Actions.{Action}
 use Rattle.run_actions.specs.Runs.{Ran}
 use Rattle.run_actions.specs.declared.halt.Halt.{Halt}
 use Rattle.run_actions.proofs.Ends.{ran_none, within_none}
-use Rattle.clipmap_prog.proofs.Demos.{seed_in_range, seed_is}
+use Rattle.clipmap_prog.proofs.Demos.{seed_is}
 use Rattle.clipmap_prog.proofs.demo.fly_seed.Goals as goal
-
-pub run_course-requires : goal.run_course-requires
-run_course-requires g c =
-    seed_in_range c.args.seed (script_view c.in-Ok.staged.script) (land_of c.in-Ok.staged.store) c.in-Ok.ensures.flight c.in-Ok.ensures.flown
 
 pub returns-in-Ok-clause-ran : goal.returns-in-Ok-clause-ran
 returns-in-Ok-clause-ran g c =
