@@ -77,6 +77,7 @@ PAIRS = 'claim 0\nfinish 0\n' * 9
 base['one.play'] = ('size 4 1\nmove 1 1\nbegin 2\n' + PAIRS + 'publish 0\nbegin 0\nbegin 1\nmove 41 1\nclaim 3\nend 0\n'
     'see 1 0 0 -9\nendseen 1\nfinish 3\nend 2\n').encode()
 base['two.play'] = ('size 4 2\n' + PAIRS + 'publish 1\n' + PAIRS + 'publish 0\nbegin 0\nend 0\n').encode()
+base['one.fly'] = b'size 4 1\nmove 1 1\nsettle\nframe\nmove 5 1\nframe\nsettle\nframe\n'
 base['bad.play'] = b'size 4 1\nclaim 16\n'
 
 # Each run: its words, and which file a line of its output tells of, by a pattern with the file's number, if it has one.
@@ -93,6 +94,7 @@ RUNS = [
     ('play one.play out N00E000.hgt', r'end(?:seen)? \d+: closed (\d+) ', 'out-%s.obj'),
     ('play two.play out a.gct', r'end \d+: closed (\d+) ', 'out-%s.obj'),
     ('play bad.play out N00E000.hgt', None, None),
+    ('fly 2 one.fly out N00E000.hgt', r'end \d+: closed (\d+) ', 'out-%s.obj'),
     ('frame', None, None),
 ]
 

@@ -1,6 +1,6 @@
 //! Plays with each call of the shelf and of the sink failing in turn: the files and lines of earlier events stand.
 use crate::trial::{Act, OUTS, Trial, tried, try_each, words_of};
-use memory_runs::{NINE, STORE, run};
+use memory_runs::{NINE, STORE, run, run_failing};
 use std::alloc::{AllocError, Global};
 use std::test::Fail;
 use std::thread::Threads;
@@ -159,26 +159,70 @@ fn tried_by_its_log<R: Threads + Sync + AllocGlobal>(
     Ok(acts.len() == counts.lines && puts == counts.puts && tried(rt, &trial)?)
 }
 
-// A play whose frames have triangles.
+// A flight of one frame.
+const FLIGHT: &[u8] = b"size 4 1\nmove 1 1\nsettle\nframe\n";
+
+// A play and flights whose frames have triangles.
 #[test]
 fn each_call_of_a_long_run_fails(rt: HostRuntime) -> Result<(), Fail> {
     let script = full_script(rt.alloc())?;
     let files = [
         ("s", script.as_bytes()),
+        ("f", FLIGHT),
         ("a.gct", STORE.as_slice()),
+        ("N00E000.hgt", NINE.as_slice()),
         ("o", b"old".as_slice()),
     ];
-    let table = [(
-        "play s o a.gct",
-        Counts {
-            fetches: 2,
-            lines: 54,
-            puts: 5,
-        },
-    )];
+    let table = [
+        (
+            "play s o a.gct",
+            Counts {
+                fetches: 2,
+                lines: 54,
+                puts: 5,
+            },
+        ),
+        (
+            "fly 1 f o N00E000.hgt",
+            Counts {
+                fetches: 2,
+                lines: 23,
+                puts: 1,
+            },
+        ),
+        (
+            "fly 2 f o N00E000.hgt",
+            Counts {
+                fetches: 2,
+                lines: 24,
+                puts: 1,
+            },
+        ),
+        (
+            "fly 15 f o N00E000.hgt",
+            Counts {
+                fetches: 2,
+                lines: 27,
+                puts: 1,
+            },
+        ),
+    ];
     for (line, counts) in table {
         let words = words_of(rt.alloc(), line)?;
         assert!(rt; tried_by_its_log(&rt, &words, &files, counts)?, "{line}");
+    }
+    Ok(())
+}
+
+// A demo has one call, that of its line.
+#[test]
+fn the_call_of_a_demo_fails(rt: HostRuntime) -> Result<(), Fail> {
+    let files = [("o", b"old".as_slice())];
+    let left = run_failing(&rt, &["demo", "0"], &files, &[0, 1], &[0])?;
+    assert_eq!(rt; left.status, 4);
+    assert!(rt; left.sink.bytes().is_empty() && left.out() == b"old".as_slice());
+    for name in OUTS {
+        assert!(rt; name == "o" || left.shelf.file(name).is_none(), "{name}");
     }
     Ok(())
 }
