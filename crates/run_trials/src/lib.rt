@@ -5,6 +5,12 @@
 #[cfg(test)]
 mod counted;
 #[cfg(test)]
+mod demos;
+#[cfg(test)]
+mod flights;
+#[cfg(test)]
+mod mosaics;
+#[cfg(test)]
 mod plain;
 #[cfg(test)]
 mod random;

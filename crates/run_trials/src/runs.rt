@@ -2,12 +2,12 @@
 
 ghost use Rattle.std.specs.Prelude.{◌≡◌, IfOk};
 ghost use Rattle.plan_model.specs.Limits.{IsLevelCount};
-ghost use Rattle.clip_script.specs.Scripts.{play_view};
-ghost use Rattle.clip_runs.specs.Courses.{IsCourseInRange, IsPlayInRange, course_view};
+ghost use Rattle.clip_script.specs.Scripts.{fly_view, play_view};
+ghost use Rattle.clip_runs.specs.Courses.{IsCourseInRange, IsFlyInRange, IsPlayInRange, course_view};
 ghost use Rattle.terrain_store.specs.Stores.{land_of};
 
 use clip_runs::{Course, Filler, run_course};
-use clip_script::{PlayScript, read_play};
+use clip_script::{FlyScript, PlayScript, read_fly, read_play};
 use height_pyramid::Grid;
 use outer_shelf::{MemoryShelf, MemorySink};
 use std::alloc::Global;
@@ -96,6 +96,17 @@ pub(crate) fn script_of(alloc: Global, text: &[u8], levels: u8) -> Result<PlaySc
     ensures { IfOk result (λ script. IsPlayInRange levels (play_view script)) }
 {
     let script = read_play(alloc, text)?;
+    if script.levels != levels {
+        return Err("other levels".into());
+    }
+    Ok(script)
+}
+
+// A fly script that is read, of so many levels.
+pub(crate) fn flight_of(alloc: Global, text: &[u8], levels: u8) -> Result<FlyScript, Fail>
+    ensures { IfOk result (λ script. IsFlyInRange levels (fly_view script)) }
+{
+    let script = read_fly(alloc, text)?;
     if script.levels != levels {
         return Err("other levels".into());
     }
