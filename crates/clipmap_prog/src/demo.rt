@@ -58,16 +58,12 @@ fn fly_seed<R: Threads + Sync, S: Shelf, K: Sink>(
         (S.told shelf.old) (S.told shelf.new) (K.told out.old) (K.told out.new) }
     ensures reason { HadReason result (S.told shelf.old) (S.told shelf.new) (K.told out.old) (K.told out.new) }
 {
-    match stage(alloc, seed) {
-        Ok(staged) => {
-            let course = Course::Demo {
-                seed,
-                script: &staged.script,
-            };
-            ended_by(run_course(rt, alloc, &staged.store, &course, "", shelf, out))
-        }
-        Err(halt) => Err(halt),
-    }
+    let staged = stage(alloc, seed)?;
+    let course = Course::Demo {
+        seed,
+        script: &staged.script,
+    };
+    ended_by(run_course(rt, alloc, &staged.store, &course, "", shelf, out))
 }
 
 // Runs a `demo`. `Ok` is the status 0.

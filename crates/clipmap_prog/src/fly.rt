@@ -95,13 +95,9 @@ fn stage<'a, S: Shelf>(alloc: Global, shelf: &mut S, fly: &FlyWords<'a>) -> Resu
     ensures files_stay { (S.told shelf.new).files ≡ (S.told shelf.old).files }
     ensures faults_stay { (S.told shelf.old).faults ≤ (S.told shelf.new).faults }
 {
-    match fetch_script(alloc, shelf, fly.script) {
-        Ok(script) => match read_land(alloc, shelf, fly.inputs, script.levels) {
-            Ok(store) => Ok(Staged { script, store }),
-            Err(stop) => Err(stop),
-        },
-        Err(stop) => Err(stop),
-    }
+    let script = fetch_script(alloc, shelf, fly.script)?;
+    let store = read_land(alloc, shelf, fly.inputs, script.levels)?;
+    Ok(Staged { script, store })
 }
 
 // Flies a script over a store, under a name.

@@ -83,14 +83,8 @@ fn read_ground<'a, S: Shelf>(
     ensures faults_stay { (S.told shelf.old).faults ≤ (S.told shelf.new).faults }
 {
     match store_name(inputs) {
-        Some(name) => match fetch_kept(alloc, shelf, name) {
-            Ok(store) => Ok(Ground::Store(store)),
-            Err(stop) => Err(stop),
-        },
-        None => match read_tiles(alloc, shelf, inputs) {
-            Ok(tiles) => Ok(Ground::Tiles(tiles)),
-            Err(stop) => Err(stop),
-        },
+        Some(name) => Ok(Ground::Store(fetch_kept(alloc, shelf, name)?)),
+        None => Ok(Ground::Tiles(read_tiles(alloc, shelf, inputs)?)),
     }
 }
 
@@ -147,9 +141,8 @@ pub(crate) fn read_land<'a, S: Shelf>(
     ensures files_stay { (S.told shelf.new).files ≡ (S.told shelf.old).files }
     ensures faults_stay { (S.told shelf.old).faults ≤ (S.told shelf.new).faults }
 {
-    match read_ground(alloc, shelf, inputs) {
-        Ok(Ground::Tiles(tiles)) => packed(alloc, tiles, levels),
-        Ok(Ground::Store(store)) => levelled(store, levels),
-        Err(stop) => Err(stop),
+    match read_ground(alloc, shelf, inputs)? {
+        Ground::Tiles(tiles) => packed(alloc, tiles, levels),
+        Ground::Store(store) => levelled(store, levels),
     }
 }

@@ -61,10 +61,8 @@ fn write_two<K: Sink>(out: &mut K, first: &str, second: &str) -> Result<(), Halt
         shelf shelf (K.told out.old) (K.told out.new) }
     ensures reason { (shelf : ShelfTold) → HadReason result shelf shelf (K.told out.old) (K.told out.new) }
 {
-    match write(out, first.as_bytes()) {
-        Ok(()) => write(out, second.as_bytes()),
-        Err(halt) => Err(halt),
-    }
+    write(out, first.as_bytes())?;
+    write(out, second.as_bytes())
 }
 
 // Writes three lines, one after the other.
@@ -74,10 +72,8 @@ fn write_lines<K: Sink>(out: &mut K, lines: &Lines) -> Result<(), Halt>
         ∷ Write (string_bytes lines.now.source) ∷ []) result shelf shelf (K.told out.old) (K.told out.new) }
     ensures reason { (shelf : ShelfTold) → HadReason result shelf shelf (K.told out.old) (K.told out.new) }
 {
-    match write(out, lines.terrain.as_bytes()) {
-        Ok(()) => write_two(out, lines.heights.as_str(), lines.source.as_str()),
-        Err(halt) => Err(halt),
-    }
+    write(out, lines.terrain.as_bytes())?;
+    write_two(out, lines.heights.as_str(), lines.source.as_str())
 }
 
 // Tells of inputs.

@@ -28,8 +28,6 @@ pub(crate) fn write_fault<K: Sink>(alloc: Global, out: &mut K, fault: Fault<'_>)
 pub(crate) fn ended(status: u8, run: Result<(), Halt>) -> Result<u8, Halt>
     ensures value { result ≡ with_status status run }
 {
-    match run {
-        Ok(()) => Ok(status),
-        Err(halt) => Err(halt),
-    }
+    run?;
+    Ok(status)
 }

@@ -33,10 +33,8 @@ fn write_store<S: Shelf, K: Sink>(
         (S.told shelf.old) (S.told shelf.new) (K.told out.old) (K.told out.new) }
     ensures reason { HadReason result (S.told shelf.old) (S.told shelf.new) (K.told out.old) (K.told out.new) }
 {
-    match put(shelf, name, bytes) {
-        Ok(()) => write(out, line.as_bytes()),
-        Err(halt) => Err(halt),
-    }
+    put(shelf, name, bytes)?;
+    write(out, line.as_bytes())
 }
 
 // Puts a grid's exact store of so many levels under a name, and then writes its line.

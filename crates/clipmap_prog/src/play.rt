@@ -101,13 +101,9 @@ fn stage<'a, S: Shelf>(
     ensures files_stay { (S.told shelf.new).files ≡ (S.told shelf.old).files }
     ensures faults_stay { (S.told shelf.old).faults ≤ (S.told shelf.new).faults }
 {
-    match fetch_script(alloc, shelf, play.script) {
-        Ok(script) => match read_land(alloc, shelf, play.inputs, script.levels) {
-            Ok(store) => Ok(Staged { script, store }),
-            Err(stop) => Err(stop),
-        },
-        Err(stop) => Err(stop),
-    }
+    let script = fetch_script(alloc, shelf, play.script)?;
+    let store = read_land(alloc, shelf, play.inputs, script.levels)?;
+    Ok(Staged { script, store })
 }
 
 // Plays a script over a store, under a name.

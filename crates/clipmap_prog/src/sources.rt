@@ -54,13 +54,7 @@ pub(crate) fn read_sources<'a, S: Shelf>(
     ensures faults_stay { (S.told shelf.old).faults ≤ (S.told shelf.new).faults }
 {
     match store_name(inputs) {
-        Some(name) => match fetch_store(alloc, shelf, name) {
-            Ok(file) => Ok(Source::Store(file)),
-            Err(stop) => Err(stop),
-        },
-        None => match read_tiles(alloc, shelf, inputs) {
-            Ok(tiles) => Ok(Source::Tiles(tiles)),
-            Err(stop) => Err(stop),
-        },
+        Some(name) => Ok(Source::Store(fetch_store(alloc, shelf, name)?)),
+        None => Ok(Source::Tiles(read_tiles(alloc, shelf, inputs)?)),
     }
 }

@@ -58,13 +58,9 @@ fn judge_names<'a>(alloc: Global, names: &'a [String]) -> Result<Vec<Named<'a>>,
 {
     let mut judged = Vec::new(alloc);
     for name in names {
-        match judge_name(name.as_str()) {
-            Ok(named) => {
-                if append(&mut judged, named).is_err() {
-                    return Err(Stop::Halted(Halt::NoMemory));
-                }
-            }
-            Err(stop) => return Err(stop),
+        let named = judge_name(name.as_str())?;
+        if append(&mut judged, named).is_err() {
+            return Err(Stop::Halted(Halt::NoMemory));
         }
     }
     Ok(judged)
@@ -129,13 +125,9 @@ fn fetch_tiles<'a, S: Shelf>(
 {
     let mut tiles = Vec::new(alloc);
     for one in named {
-        match fetch_tile(alloc, shelf, one) {
-            Ok(tile) => {
-                if append(&mut tiles, tile).is_err() {
-                    return Err(Stop::Halted(Halt::NoMemory));
-                }
-            }
-            Err(stop) => return Err(stop),
+        let tile = fetch_tile(alloc, shelf, one)?;
+        if append(&mut tiles, tile).is_err() {
+            return Err(Stop::Halted(Halt::NoMemory));
         }
     }
     Ok(tiles)
@@ -200,10 +192,8 @@ fn read_named<'a, S: Shelf>(
     ensures files_stay { (S.told shelf.new).files ≡ (S.told shelf.old).files }
     ensures faults_stay { (S.told shelf.old).faults ≤ (S.told shelf.new).faults }
 {
-    match fetch_tiles(alloc, shelf, named) {
-        Ok(tiles) => join_tiles(alloc, tiles),
-        Err(stop) => Err(stop),
-    }
+    let tiles = fetch_tiles(alloc, shelf, named)?;
+    join_tiles(alloc, tiles)
 }
 
 // Tiles by their names. All names are judged before any file is fetched.
@@ -222,8 +212,6 @@ pub(crate) fn read_tiles<'a, S: Shelf>(
     ensures files_stay { (S.told shelf.new).files ≡ (S.told shelf.old).files }
     ensures faults_stay { (S.told shelf.old).faults ≤ (S.told shelf.new).faults }
 {
-    match judge_names(alloc, names) {
-        Ok(named) => read_named(alloc, shelf, named.as_slice()),
-        Err(stop) => Err(stop),
-    }
+    let named = judge_names(alloc, names)?;
+    read_named(alloc, shelf, named.as_slice())
 }

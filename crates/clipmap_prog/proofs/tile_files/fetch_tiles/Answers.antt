@@ -1,5 +1,6 @@
 use Rattle.std.proofs.Common.{◌≡◌, ◌+◌, ◌∷◌, [], ◌++◌, List, IfSome, Ok, vec_len, refl, ◌∙◌, sym, ap, subst, arith}
 use Rattle.std.proofs.lemmas.List.{take_all}
+use Rattle.std.proofs.lemmas.Result.{err_from_is_err_and}
 use Rattle.outer_shelf.specs.Outside.{Files}
 use Rattle.clipmap_prog.specs.declared.tile_files.Named.{Named}
 use Rattle.run_actions.specs.Runs.{CallsWithin}
@@ -27,35 +28,37 @@ loop-one-preserved g c =
     let s2 = g.S.Shelf.told c.fetch_tile.new.shelf in
     let before = c.loop-one.tiles.items in
     let new = c.append.new.list.items in
-    let pushed : new ≡ before ++ c.in-Ok.tile ∷ [] = of_ok c.append.result (new ≡ before ++ c.in-Ok.tile ∷ []) c.if-is_err.ensures.value c.append.ensures.items in
+    let pushed : new ≡ before ++ c.in_ok-tile.tile ∷ [] = of_ok c.append.result (new ≡ before ++ c.in_ok-tile.tile ∷ []) c.if-is_err.ensures.value c.append.ensures.items in
     let longer : vec_len c.append.new.list ≡ vec_len c.loop-one.tiles + 1 = of_ok c.append.result (vec_len c.append.new.list ≡ vec_len c.loop-one.tiles + 1) c.if-is_err.ensures.value c.append.ensures.length in
     record {
-      found = next_found named i _ c.loop-one-test.true s s1 c.loop-one.invariant.files_stay before c.loop-one.invariant.found new c.in-Ok.tile pushed c.in-Ok.ensures.found;
-      calls = next_calls named i c.loop-one-test.true s s1 s2 before c.loop-one.invariant.found c.in-Ok.ensures.counted c.loop-one.invariant.calls;
-      files_stay = c.in-Ok.ensures.files_stay ∙ c.loop-one.invariant.files_stay;
-      faults_stay = omega (arith, c.in-Ok.ensures.faults_stay, c.loop-one.invariant.faults_stay);
+      found = next_found named i _ c.loop-one-test.true s s1 c.loop-one.invariant.files_stay before c.loop-one.invariant.found new c.in_ok-tile.tile pushed c.in_ok-tile.ensures.found;
+      calls = next_calls named i c.loop-one-test.true s s1 s2 before c.loop-one.invariant.found c.in_ok-tile.ensures.counted c.loop-one.invariant.calls;
+      files_stay = c.in_ok-tile.ensures.files_stay ∙ c.loop-one.invariant.files_stay;
+      faults_stay = omega (arith, c.in_ok-tile.ensures.faults_stay, c.loop-one.invariant.faults_stay);
       all = omega (arith, longer, c.loop-one.invariant.all);
     }
 
-pub returns-in-Err-clause-found : goal.returns-in-Err-clause-found
-returns-in-Err-clause-found g c =
-    next_stopped c.args.named.now c.loop-one.one-index _ c.loop-one-test.true (g.S.Shelf.told c.args.shelf.now) (g.S.Shelf.told c.loop-one.shelf)
-    c.loop-one.invariant.files_stay c.loop-one.tiles.items c.loop-one.invariant.found c.in-Err.stop c.in-Err.ensures.found
+pub returns-in_err-tile-clause-found : goal.returns-in_err-tile-clause-found
+returns-in_err-tile-clause-found g c =
+    let p = err_from_is_err_and c.from_residual.result c.from_residual.ensures.1 in
+    rw (p.1, p.2) (next_stopped c.args.named.now c.loop-one.one-index _ c.loop-one-test.true (g.S.Shelf.told c.args.shelf.now) (g.S.Shelf.told c.loop-one.shelf)
+    c.loop-one.invariant.files_stay c.loop-one.tiles.items c.loop-one.invariant.found _ c.in_err-tile.ensures.found)
 
-pub returns-in-Err-clause-calls : goal.returns-in-Err-clause-calls
-returns-in-Err-clause-calls g c =
+pub returns-in_err-tile-clause-calls : goal.returns-in_err-tile-clause-calls
+returns-in_err-tile-clause-calls g c =
     last_calls c.args.named.now c.loop-one.one-index c.loop-one-test.true (g.S.Shelf.told c.args.shelf.now) (g.S.Shelf.told c.loop-one.shelf) (g.S.Shelf.told c.fetch_tile.new.shelf)
-    c.loop-one.tiles.items c.loop-one.invariant.found c.in-Err.ensures.counted c.loop-one.invariant.calls
+    c.loop-one.tiles.items c.loop-one.invariant.found c.in_err-tile.ensures.counted c.loop-one.invariant.calls
 
-pub returns-in-Err-clause-reason : goal.returns-in-Err-clause-reason
-returns-in-Err-clause-reason g c =
-    stopped_later (g.S.Shelf.told c.args.shelf.now) (g.S.Shelf.told c.loop-one.shelf) (g.S.Shelf.told c.fetch_tile.new.shelf)
-    c.in-Err.stop c.loop-one.invariant.faults_stay c.in-Err.ensures.reason
+pub returns-in_err-tile-clause-reason : goal.returns-in_err-tile-clause-reason
+returns-in_err-tile-clause-reason g c =
+    let p = err_from_is_err_and c.from_residual.result c.from_residual.ensures.1 in
+    rw (p.1, p.2) (stopped_later (g.S.Shelf.told c.args.shelf.now) (g.S.Shelf.told c.loop-one.shelf) (g.S.Shelf.told c.fetch_tile.new.shelf)
+    _ c.loop-one.invariant.faults_stay c.in_err-tile.ensures.reason)
 
 pub returns-then-is_err-clause-calls : goal.returns-then-is_err-clause-calls
 returns-then-is_err-clause-calls g c =
     last_calls c.args.named.now c.loop-one.one-index c.loop-one-test.true (g.S.Shelf.told c.args.shelf.now) (g.S.Shelf.told c.loop-one.shelf) (g.S.Shelf.told c.fetch_tile.new.shelf)
-    c.loop-one.tiles.items c.loop-one.invariant.found c.in-Ok.ensures.counted c.loop-one.invariant.calls
+    c.loop-one.tiles.items c.loop-one.invariant.found c.in_ok-tile.ensures.counted c.loop-one.invariant.calls
 
 pub returns-clause-found : goal.returns-clause-found
 returns-clause-found g c =
