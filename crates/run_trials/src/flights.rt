@@ -4,6 +4,7 @@ ghost use Rattle.clip_runs.specs.Courses.{AreWorkers};
 
 use crate::runs::{Left, flight_of, nine, run, script_of};
 use clip_runs::Course;
+use memchr::memmem;
 use std::test::Fail;
 use std::thread::Threads;
 
@@ -28,7 +29,7 @@ fn lines(text: &[u8]) -> usize {
 
 // Whether a text has another in it.
 fn has(text: &[u8], piece: &[u8]) -> bool {
-    text.windows(piece.len()).any(|part| part == piece)
+    memmem::find(text, piece).is_some()
 }
 
 #[test]

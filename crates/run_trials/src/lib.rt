@@ -5,8 +5,6 @@
 #[cfg(test)]
 mod counted;
 #[cfg(test)]
-mod demos;
-#[cfg(test)]
 mod flights;
 #[cfg(test)]
 mod mosaics;
