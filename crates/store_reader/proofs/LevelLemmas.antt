@@ -1,10 +1,10 @@
 -- A block in the table of its level.
-use Rattle.std.proofs.Common.{◌≡◌, Bool, true, false, ◌&&◌, cond, ltb, eqb, ℕ, ◌+◌, ◌-◌, ◌*◌, ◌/◌, ◌%◌, ◌^◌, ◌<◌, ◌≤◌, ℤ, pos, negsuc, ◌+ℤ◌, ◌≤ℤ◌, ◌<ℤ◌, List, ◌++◌, length, drop, get_or, refl, ap, sym, ◌∙◌, subst, arith}
+use Rattle.std.proofs.Common.{◌≡◌, Bool, true, false, ◌&&◌, cond, ltb, eqb, min, ℕ, ◌+◌, ◌-◌, ◌*◌, ◌/◌, ◌%◌, ◌^◌, ◌<◌, ◌≤◌, ℤ, pos, negsuc, ◌+ℤ◌, ◌*ℤ◌, ◌≤ℤ◌, ◌<ℤ◌, List, ◌++◌, length, drop, get_or, refl, ap, sym, ◌∙◌, subst, arith}
 use Rattle.std.proofs.lemmas.Int.{ints}
 use Rattle.std.proofs.lemmas.Nat.{div_below, mod_below, mod-mul-add, div-mul-add}
 use Rattle.std.proofs.lemmas.Bool.{false≢true}
 use Rattle.std.proofs.lemmas.Bool.Decides.{nat_tests}
-use Rattle.std.proofs.Math.Nat.{mul-le-mul_right, mul-le-mul, div-le_self}
+use Rattle.std.proofs.Math.Nat.{mul-le-mul_right, mul-le-mul}
 use mathlib.Core.Path.{ap₂}
 use Rattle.clip_regions.specs.declared.region.Region.{Region}
 use Rattle.clip_regions.specs.Regions.{contains, columns, rows, area}
@@ -24,7 +24,7 @@ use Rattle.store_reader.specs.declared.blocks.Source.TheVariants.{Plain, Over}
 use Rattle.store_reader.specs.Places.{IsPlaceOf, cell_heights}
 use Rattle.store_reader.specs.Tables.{AreRowsIn, IsKeptOutside, IsSpanOf}
 use Rattle.store_reader.specs.Decoding.{IsDecoded, is_plain, IsFaultIn}
-use Rattle.store_reader.specs.Reading.{coarser_of, BlockRead}
+use Rattle.store_reader.specs.Reading.{coarser_of, next_in, BlockRead}
 use Rattle.store_reader.proofs.CellNumbers.{columns_is, rows_is, lying}
 use Rattle.store_laws.proofs.Terrains.{table_at}
 
@@ -43,8 +43,19 @@ rows_fit r span high s y h =
     let is = rows_is r y in
     omega (arith, ints)
 
-pub room : (n wide high : ℕ) → n ≤ high → n * wide ≤ wide * high
-room n wide high h = (let p = mul-le-mul_right wide h in omega arith)
+-- the rows of a block end in the rows of a table from a row of blocks on
+pub band_rows : (r : Region) (span : Span) (by row wide high n : ℕ) → IsSpanOf r span → r.y0 ≤ℤ r.y1 → r.y1 ≤ℤ (pos 8 *ℤ pos by +ℤ pos 7) → r.y1 <ℤ pos high → min (8 * (by + 1)) high * wide ≤ min (8 * row) high * wide + n → (span.y0 + span.rows) * wide ≤ 8 * row * wide + n
+band_rows r span by row wide high n s y south below h =
+    let north = s.north in
+    let down = s.down in
+    let is = rows_is r y in
+    let inside : span.y0 + span.rows ≤ min (8 * (by + 1)) high = omega (arith, ints) in
+    let p : (span.y0 + span.rows) * wide ≤ min (8 * (by + 1)) high * wide = mul-le-mul_right wide inside in
+    let q : min (8 * row) high * wide ≤ 8 * row * wide = mul-le-mul_right wide (omega arith) in
+    omega arith
+
+pub top_is : (r : Region) (by row high : ℕ) → (pos 8 *ℤ pos by) ≤ℤ r.y0 → r.y0 ≤ℤ r.y1 → r.y1 <ℤ pos high → row ≤ by → 8 * row ≡ min (8 * row) high
+top_is r by row high north y below h = omega (arith, ints)
 
 pub span_area : (r : Region) (span : Span) → IsSpanOf r span → span.width * span.rows ≡ area r
 unfolding area
@@ -53,22 +64,13 @@ span_area r span s = ap₂ (λ (m n : ℕ). m * n) s.across s.down
 pub few_cells : (m n : ℕ) → m ≤ 8 → n ≤ 8 → m * n ≤ 64
 few_cells m n a b = mul-le-mul {n₁ = m} {m₁ = n} {n₂ = 8} {m₂ = 8} a b
 
-pub cells_below : (side level : ℕ) → 1 ≤ side → cells_on side level ≤ side
-unfolding cells_on
-cells_below side level some = (let h = div-le_self (side - 1) (2 ^ level) in omega arith)
-
-pub cells_few : (width height level : ℕ) → 1 ≤ width → 1 ≤ height → width * height ≤ 2 ^ 26 → cells_on width level * cells_on height level ≤ 2 ^ 26
-cells_few width height level some some_rows few =
-    let h = mul-le-mul (cells_below width level some) (cells_below height level some_rows) in
-    omega arith
-
 -- ---- cells of a table
 chosen_like : (a b : Bool) (x y z : ℤ) → (a ≡ true → b ≡ true → x ≡ y) → cond (a && b) x z ≡ cond (a && b) y z
 chosen_like true true x y z h = h refl refl
 chosen_like true false x y z h = refl
 chosen_like false b x y z h = refl
 
-height_like : (wide high : ℕ) (old new : List ℤ) (i j : ℤ) → ((x y : ℕ) → i ≡ pos x → j ≡ pos y → x < wide → y < high → get_or new (y * wide + x) (pos 0) ≡ get_or old (y * wide + x) (pos 0)) → height_at (record { width = wide; height = high; table = new }) i j ≡ height_at (record { width = wide; height = high; table = old }) i j
+pub height_like : (wide high : ℕ) (old new : List ℤ) (i j : ℤ) → ((x y : ℕ) → i ≡ pos x → j ≡ pos y → x < wide → y < high → get_or new (y * wide + x) (pos 0) ≡ get_or old (y * wide + x) (pos 0)) → height_at (record { width = wide; height = high; table = new }) i j ≡ height_at (record { width = wide; height = high; table = old }) i j
 unfolding height_at
 height_like wide high old new (pos x) (pos y) h =
     chosen_like (ltb x wide) (ltb y high) (get_or new (y * wide + x) (pos 0)) (get_or old (y * wide + x) (pos 0)) (pos 0)
@@ -113,8 +115,8 @@ kept_of head level r span old new s some some_rows wide kept i j out =
     let row : y ≡ span.y0 + b = sym (div-mul-add y w x h) ∙ ap (λ (n : ℕ). n / w) same ∙ div-mul-add (span.y0 + b) w (span.x0 + a) (omega arith) in
     false≢true (sym out ∙ lying r i j (record { west = omega (arith, ints); east = omega (arith, ints); north = omega (arith, ints); south = omega (arith, ints) }))))
 
-pub block_read : (head : Head) (source : Source) (level k : ℕ) (bytes : List ℕ) (at next : ℕ) (content : List ℕ) (place : Place) (span : Span) (out old new : List ℤ) → IsPlaceOf head level k place → IsSpanOf place.cells span → place.cells.x0 ≤ℤ place.cells.x1 → place.cells.y0 ≤ℤ place.cells.y1 → place.cells.x1 <ℤ pos (cells_on head.width level) → place.cells.y1 <ℤ pos (cells_on head.height level) → length content < 2 ^ 16 → next ≡ at + (2 + length content) → at + (2 + length content) ≤ length bytes → drop at bytes ≡ entry content ++ drop (at + (2 + length content)) bytes → length out ≡ area place.cells → IsDecoded source head.step place.cells content out → AreRowsIn span.rows (cells_on head.width level) span out new → IsKeptOutside span.rows (cells_on head.width level) span old new → BlockRead head source level k bytes at next old new
-block_read head source level k bytes at next content place span out old new p s x y east south short next_is ends spelled size decoded written kept =
+pub block_read : (head : Head) (source : Source) (level k : ℕ) (bytes : List ℕ) (at next : ℕ) (content : List ℕ) (place : Place) (span : Span) (out old new : List ℤ) → IsPlaceOf head level k place → IsSpanOf place.cells span → place.cells.x0 ≤ℤ place.cells.x1 → place.cells.y0 ≤ℤ place.cells.y1 → place.cells.x1 <ℤ pos (cells_on head.width level) → place.cells.y1 <ℤ pos (cells_on head.height level) → length content < 2 ^ 16 → next ≡ at + (2 + length content) → at + (2 + length content) ≤ length bytes → at + (2 + length content) ≡ next_in bytes at → drop at bytes ≡ entry content ++ drop (at + (2 + length content)) bytes → length out ≡ area place.cells → IsDecoded source head.step place.cells content out → AreRowsIn span.rows (cells_on head.width level) span out new → IsKeptOutside span.rows (cells_on head.width level) span old new → BlockRead head source level k bytes at next old new
+block_read head source level k bytes at next content place span out old new p s x y east south short next_is ends counted spelled size decoded written kept =
     let r = place.cells in
     let wide = columns_fit r span (cells_on head.width level) s x east in
     let high = rows_fit r span (cells_on head.height level) s y south in
@@ -125,6 +127,7 @@ block_read head source level k bytes at next content place span out old new p s 
       out = out;
       short = short;
       ends = omega arith;
+      place = next_is ∙ counted;
       spelled = spelled ∙ ap (λ (n : ℕ). entry content ++ drop n bytes) (sym next_is);
       size = size ∙ ap area p.cells;
       decoded = subst (λ (c : Region). IsDecoded source head.step c content out) p.cells decoded;

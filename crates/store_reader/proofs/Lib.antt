@@ -7,5 +7,6 @@ pub mod EntryLemmas
 pub mod TableLemmas
 pub mod LevelLemmas
 pub mod BlockLists
+pub mod Bands
 pub mod Stores
 pub mod PatchLemmas

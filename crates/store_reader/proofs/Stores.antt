@@ -70,16 +70,21 @@ decoded_block Plain head heights level k content out next d p = d (heights level
 decoded_block (Over grid) head heights level k content out next d p =
     subst (λ (c : ℤ → ℤ → ℤ). IsWordBlock c (heights level) head.step (region_of head level k) content) (sym (next refl)) (d (heights level) p)
 
-are_blocks : (head : Head) (source : Source) (heights : Levels) (level k : ℕ) (bytes : List ℕ) (start at : ℕ) (table : List ℤ) → is_plain source ≡ eqb (level + 1) head.levels → heights level ≡ cell_heights head level table → (is_plain source ≡ false → heights (level + 1) ≡ coarser_of source) → (x : BlocksRead head source level k bytes start at table) → AreBlocks head heights level k (flat_map (λ m. entry (x.content m)) (range_with_len 0 k))
+are_blocks : (head : Head) (source : Source) (heights : Levels) (level k : ℕ) (bytes : List ℕ) (start at : ℕ) (table : List ℤ) → is_plain source ≡ eqb (level + 1) head.levels → heights level ≡ cell_heights head level table → (is_plain source ≡ false → heights (level + 1) ≡ coarser_of source) → (x : BlocksRead head source level 0 k bytes start at table) → AreBlocks head heights level k (flat_map (λ m. entry (x.content m)) (range_with_len 0 k))
 are_blocks head source heights level k bytes start at table kind here next x = record {
   content = x.content;
-  short = x.short;
+  short = λ m h. x.short m (omega arith) h;
   blocks = λ m h.
       subst (λ (t : Bool). IsBlockOf t head heights level m (x.content m)) kind
-      (decoded_block source head heights level m (x.content m) (x.out m) next (x.decoded m h)
-      (subst (λ (f : ℤ → ℤ → ℤ). IsPieceUpTo (length (x.out m)) f (region_of head level m) (x.out m)) (sym here) (x.pieces m h)));
+      (decoded_block source head heights level m (x.content m) (x.out m) next (x.decoded m (omega arith) h)
+      (subst (λ (f : ℤ → ℤ → ℤ). IsPieceUpTo (length (x.out m)) f (region_of head level m) (x.out m)) (sym here) (x.pieces m (omega arith) h)));
   spelled = refl;
 }
+
+spelled_of : (head : Head) (source : Source) (level k : ℕ) (bytes : List ℕ) (start at : ℕ) (table : List ℤ) → (x : BlocksRead head source level 0 k bytes start at table) → drop start bytes ≡ flat_map (λ m. entry (x.content m)) (range_with_len 0 k) ++ drop at bytes
+spelled_of head source level k bytes start at table x =
+    let all : k - 0 ≡ k = omega arith in
+    x.spelled ∙ ap (λ (n : ℕ). flat_map (λ m. entry (x.content m)) (range_with_len 0 n) ++ drop at bytes) all
 
 -- the bytes up to an offset are those up to an earlier one and what stands between
 take_to : (bytes between : List ℕ) (start at : ℕ) → start ≤ length bytes → at ≤ length bytes → drop start bytes ≡ between ++ drop at bytes → take at bytes ≡ take start bytes ++ between
@@ -117,14 +122,14 @@ module _ (finest : FinestLevel) (out : LevelOutside) (like : FrontOfLike) (head 
         ends = x.read.ends;
         front =
             subst (λ (n : ℕ). IsFront head G n (take at bytes)) (sym count)
-            (take start bytes, blocks, grown_front f, subst (λ (l : ℕ). IsLevel head G l blocks) (sym this) whole, take_to bytes blocks start at begun x.read.ends x.read.spelled);
+            (take start bytes, blocks, grown_front f, subst (λ (l : ℕ). IsLevel head G l blocks) (sym this) whole, take_to bytes blocks start at begun x.read.ends (spelled_of head source level (block_count head.width head.height level) bytes start at grid.table x.read));
         last = λ i j. ap (λ (l : ℕ). G l i j) last ∙ ap (λ (g : ℤ → ℤ → ℤ). g i j) here ∙ sym (cells i j) ∙ sym (finest grid i j);
         columns = x.columns ∙ ap (cells_on head.width) (sym last);
         rows = x.rows ∙ ap (cells_on head.height) (sym last);
         terrain = x.terrain;
       }
 
-  at_block : (sound : IsSoundHead head) (k at : ℕ) (table : List ℤ) (P : Levels → List ℕ → Type 0) → k < block_count head.width head.height level → BlocksRead head source level k bytes start at table → P (grown old level (cell_heights head level table)) (drop at bytes) → AtBlock head level k bytes P
+  at_block : (sound : IsSoundHead head) (k at : ℕ) (table : List ℤ) (P : Levels → List ℕ → Type 0) → k < block_count head.width head.height level → BlocksRead head source level 0 k bytes start at table → P (grown old level (cell_heights head level table)) (drop at bytes) → AtBlock head level k bytes P
   at_block sound k at table P inside x follows =
       let f = cell_heights head level table in
       let blocks = flat_map (λ m. entry (x.content m)) (range_with_len 0 k) in
@@ -138,14 +143,14 @@ module _ (finest : FinestLevel) (out : LevelOutside) (like : FrontOfLike) (head 
         rest = drop at bytes;
         front = grown_front f;
         done = are_blocks head source (grown old level f) level k bytes start at table kind (grown_here old level f) (grown_next f) x;
-        spelled = sym (take-append-drop start bytes) ∙ ap (λ (xs : List ℕ). take start bytes ++ xs) x.spelled ∙ sym (append_assoc (take start bytes) blocks (drop at bytes));
+        spelled = sym (take-append-drop start bytes) ∙ ap (λ (xs : List ℕ). take start bytes ++ xs) (spelled_of head source level k bytes start at table x) ∙ sym (append_assoc (take start bytes) blocks (drop at bytes));
         follows = follows;
       }
 
   plain_no : level + 1 < head.levels → is_plain source ≡ false
   plain_no h = (let no : eqb (level + 1) head.levels ≡ false = grind (arith, nat_tests) in kind ∙ no)
 
-  store_fault : (sound : IsSoundHead head) (k at : ℕ) (table : List ℤ) (fault : StoreFault) → k < block_count head.width head.height level → BlocksRead head source level k bytes start at table → HasFaultAt head (coarser_of source) level k bytes (drop at bytes) fault → HasStoreFault bytes fault
+  store_fault : (sound : IsSoundHead head) (k at : ℕ) (table : List ℤ) (fault : StoreFault) → k < block_count head.width head.height level → BlocksRead head source level 0 k bytes start at table → HasFaultAt head (coarser_of source) level k bytes (drop at bytes) fault → HasStoreFault bytes fault
   store_fault sound k at table BadMagic inside x f = absurd f
   store_fault sound k at table (BadHeader field) inside x f = absurd f
   store_fault sound k at table (CutShort offset) inside x f =
@@ -176,7 +181,7 @@ module _ (finest : FinestLevel) (out : LevelOutside) (like : FrontOfLike) (head 
   level_fails sound fault u =
       ⊎_elim
       (λ (e : fault ≡ NoMemory). inl e)
-      (λ (f : HasLevelFault head source level bytes start fault). inr (store_fault sound f.k f.at f.table fault f.below f.read f.follows))
+      (λ (f : HasLevelFault head source level 0 bytes start fault). inr (store_fault sound f.k f.at f.table fault f.below f.read f.follows))
       u
 
 -- ---- the first level, the next one and the end

@@ -1,5 +1,5 @@
 -- Rows of heights in the table of a level.
-use Rattle.std.specs.Prelude.{◌≡◌, ◌⊎◌, ℕ, ◌+◌, ◌*◌, ◌<◌, ◌≤◌, List, ℤ, pos, slice_index_or}
+use Rattle.std.specs.Prelude.{◌≡◌, ◌⊎◌, ℕ, ◌+◌, ◌*◌, ◌<◌, ◌≤◌, List, ◌++◌, replicate, ℤ, pos, slice_index_or}
 use Rattle.clip_regions.specs.declared.region.Region.{Region}
 use Rattle.clip_regions.specs.Regions.{columns, rows}
 use Rattle.store_reader.specs.declared.table.Span.{Span}
@@ -36,3 +36,7 @@ pub record IsSpanOf (r : Region) (span : Span) : Type 0 where
   pub north : r.y0 ≡ pos span.y0
   pub across : span.width ≡ columns r
   pub down : span.rows ≡ rows r
+
+-- a table whose first n numbers are elsewhere, with 0 in their places
+abbrev pub behind_cells : ℕ → List ℤ → List ℤ
+behind_cells n table = replicate n (pos 0) ++ table

@@ -11,6 +11,7 @@ ghost use Rattle.store_model.specs.Format.{entry};
 ghost use Rattle.store_model.specs.Faults.{IsCutEntry};
 ghost use Rattle.store_reader.specs.Places.{IsSoundPlace};
 ghost use Rattle.store_reader.specs.Decoding.{IsPlainOf, IsCodedOf, IsCodedFault, IsDecoded, IsFaultIn};
+ghost use Rattle.store_reader.specs.Reading.{next_in};
 
 use crate::sizes::Place;
 use block_heights::{Block, Kind, PieceFault, piece_heights};
@@ -47,6 +48,7 @@ pub(crate) fn content_at(bytes: &[u8], at: usize) -> Option<&[u8]>
     ensures inside { IfSome result (λ content. at + (2 + length content.now) ≤ length bytes.now) }
     ensures entry { IfSome result (λ content.
         drop at bytes.now ≡ entry content.now ++ drop (at + (2 + length content.now)) bytes.now) }
+    ensures next { IfSome result (λ content. at + (2 + length content.now) ≡ next_in bytes.now at) }
     ensures cut { IfNone result (IsCutEntry (drop at bytes.now)) }
 {
     let rest = &bytes[at..];

@@ -4,6 +4,7 @@
 //! of the next coarser one. No table of the whole terrain at every level is made.
 #![tactic(auto)]
 
+mod beside;
 mod blocks;
 mod header;
 mod level;
@@ -12,7 +13,7 @@ mod sizes;
 mod table;
 
 pub use header::{Header, read_header};
-pub use levels::{StoredHeights, read_heights};
+pub use levels::{StoredHeights, read_heights, read_heights_beside};
 
 #[cfg(test)]
 mod tests;

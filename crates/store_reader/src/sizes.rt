@@ -104,15 +104,25 @@ pub(crate) fn place_of(header: Header, level: u8, k: u32) -> Place
     }
 }
 
-// How many blocks a level has.
-pub(crate) fn block_total(header: Header, level: u8) -> u32
+// How many blocks of a level stand above a row of them.
+pub(crate) fn blocks_above(header: Header, level: u8, row: u32) -> u32
     requires header { IsReadable header }
     requires level { level < header.levels }
-    ensures { result ≡ block_count header.width header.height level }
+    requires row { row ≤ blocks_on (cells_on header.height level) }
+    ensures { result ≡ blocks_on (cells_on header.width level) * row }
 {
-    let across = blocks_on(cells_on(header.width, level));
-    let down = blocks_on(cells_on(header.height, level));
-    across * down
+    blocks_on(cells_on(header.width, level)) * row
+}
+
+// How many cells of a level lie above a row of its blocks.
+pub(crate) fn cells_above(header: Header, level: u8, row: u32) -> usize
+    requires header { IsReadable header }
+    requires level { level < header.levels }
+    requires row { row ≤ blocks_on (cells_on header.height level) }
+    ensures { result ≡ min (8 * row) (cells_on header.height level) * cells_on header.width level }
+{
+    let rows = lesser(8 * row, cells_on(header.height, level));
+    rows as usize * cells_on(header.width, level) as usize
 }
 
 // How many cells a level has.

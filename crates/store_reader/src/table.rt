@@ -2,7 +2,7 @@
 
 ghost use Rattle.std.specs.Prelude.{◌≡◌, ◌+◌, ◌*◌, ◌<◌, ◌≤◌, ◌^◌, length, pos, ◌≤ℤ◌};
 ghost use Rattle.store_reader.specs.Places.{IsSoundPlace};
-ghost use Rattle.store_reader.specs.Tables.{IsRowIn, IsKeptBeside, AreRowsIn, IsKeptOutside, IsSpanOf};
+ghost use Rattle.store_reader.specs.Tables.{IsRowIn, IsKeptBeside, AreRowsIn, IsKeptOutside, IsSpanOf, behind_cells};
 
 use crate::sizes::Place;
 
@@ -48,7 +48,7 @@ fn put_row(table: &mut [i16], at: usize, heights: &[i16], from: usize, count: us
 }
 
 // Puts heights, row by row, into a span of a table with so many columns.
-pub(crate) fn put_rows(table: &mut [i16], columns: usize, span: Span, heights: &[i16])
+fn put_rows(table: &mut [i16], columns: usize, span: Span, heights: &[i16])
     requires columns { span.x0 + span.width ≤ columns }
     requires rows { (span.y0 + span.rows) * columns ≤ length table.old }
     requires few { length table.old ≤ 2 ^ 26 }
@@ -67,4 +67,29 @@ pub(crate) fn put_rows(table: &mut [i16], columns: usize, span: Span, heights: &
         let at = (span.y0 + b) * columns + span.x0;
         put_row(table, at, heights, b * span.width, span.width);
     }
+}
+
+// Puts heights, row by row, into a span of a table whose first `top` rows are left out.
+pub(crate) fn put_block(table: &mut [i16], columns: usize, top: usize, span: Span, heights: &[i16])
+    requires columns { span.x0 + span.width ≤ columns }
+    requires top { top ≤ span.y0 }
+    requires rows { (span.y0 + span.rows) * columns ≤ top * columns + length table.old }
+    requires few { length table.old ≤ 2 ^ 26 }
+    requires near { span.y0 + span.rows ≤ 2 ^ 26 }
+
+    // There is a height for each place of the span.
+    requires heights { length heights.now ≡ span.width * span.rows }
+    requires few_columns { span.width ≤ 8 }
+    requires few_rows { span.rows ≤ 8 }
+
+    // The span has them, and all else is as it was.
+    ensures rows { AreRowsIn span.rows columns span heights.now (behind_cells (top * columns) table.new) }
+    ensures kept { IsKeptOutside span.rows columns span
+        (behind_cells (top * columns) table.old) (behind_cells (top * columns) table.new) }
+{
+    let below = Span {
+        y0: span.y0 - top,
+        ..span
+    };
+    put_rows(table, columns, below, heights);
 }

@@ -8,7 +8,7 @@ use Rattle.store_reader.proofs.Stores.{front_of_head, level_more, level_fails}
 use Rattle.store_reader.proofs.levels.read_coarsest.Goals as goal
 
 pub returns-clause-read : goal.returns-clause-read
-returns-clause-read c =
+returns-clause-read g c =
     let h = c.args.header in
     let bytes = c.args.bytes.now in
     let head = head_of h in
@@ -27,7 +27,7 @@ returns-clause-read c =
     c.read_level.ensures.read
 
 pub returns-clause-fault : goal.returns-clause-fault
-returns-clause-fault c =
+returns-clause-fault g c =
     let h = c.args.header in
     let bytes = c.args.bytes.now in
     let head = head_of h in

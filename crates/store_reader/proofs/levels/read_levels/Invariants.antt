@@ -3,4 +3,4 @@ use Rattle.store_reader.specs.Reading.{LevelsRead}
 use Rattle.store_reader.proofs.levels.read_levels.Given as goal
 
 abbrev pub invariant-loop-n : goal.invariant-loop-n
-invariant-loop-n l = LevelsRead (head_of l.header) l.n l.bytes l.reached.at l.reached.grid
+invariant-loop-n g l = LevelsRead (head_of l.header) l.n l.bytes l.reached.at l.reached.grid

@@ -6,7 +6,7 @@ use Rattle.store_reader.proofs.Stores.{front_of_levels, coarser_of_levels, level
 use Rattle.store_reader.proofs.levels.read_next.Goals as goal
 
 pub returns-clause-read : goal.returns-clause-read
-returns-clause-read c =
+returns-clause-read g c =
     let h = c.args.header in
     let n = c.args.n in
     let bytes = c.args.bytes.now in
@@ -25,7 +25,7 @@ returns-clause-read c =
     c.read_level.ensures.read
 
 pub returns-clause-fault : goal.returns-clause-fault
-returns-clause-fault c =
+returns-clause-fault g c =
     let h = c.args.header in
     let n = c.args.n in
     let bytes = c.args.bytes.now in
