@@ -225,3 +225,83 @@ fn blocks_row_by_row(rt: HostRuntime) -> Result<(), Fail> {
     }
     Ok(())
 }
+
+// Sides of a store of one level, in samples. It has 2,500 blocks, and is read in parts where there are processors.
+const SIDE: usize = 400;
+
+// The height in a column and a row of it.
+fn height_at(x: usize, y: usize) -> i16 {
+    ((x * 7 + y * 13) % 5000) as i16 - 2000
+}
+
+// The store, where blocks in some columns and rows of blocks have a byte too many.
+fn plain_store(alloc: Global, long: &[(usize, usize)]) -> Result<Vec<u8>, Fail> {
+    let mut bytes = Vec::new(alloc);
+    bytes.extend_from_slice(b"GCT1\x00\x00\x01\x90\x00\x00\x01\x90\x01")?;
+    for by in 0..SIDE / 8 {
+        for bx in 0..SIDE / 8 {
+            let more = long.contains(&(bx, by));
+            bytes.extend_from_slice(&[0, if more { 129 } else { 128 }])?;
+            for y in 0..8 {
+                for x in 0..8 {
+                    let height = height_at(8 * bx + x, 8 * by + y);
+                    bytes.extend_from_slice(&height.to_be_bytes())?;
+                }
+            }
+            if more {
+                bytes.push(0)?;
+            }
+        }
+    }
+    Ok(bytes)
+}
+
+#[test]
+fn blocks_side_by_side(rt: HostRuntime) -> Result<(), Fail> {
+    let alloc = rt.alloc();
+    let bytes = plain_store(alloc, &[])?;
+    let StoredHeights { header, grid } = match read_heights_beside(&rt, alloc, bytes.as_slice()) {
+        Ok(stored) => stored,
+        Err(fault) => panic!(rt; "{fault:?}"),
+    };
+    assert_eq!(rt; (header.version, header.levels, header.step), (1, 1, 1));
+    for y in 0..SIDE {
+        for x in 0..SIDE {
+            assert_eq!(rt; grid.level_height(0, x as i32, y as i32), height_at(x, y));
+        }
+    }
+    Ok(())
+}
+
+#[test]
+fn first_of_faults_side_by_side(rt: HostRuntime) -> Result<(), Fail> {
+    let alloc = rt.alloc();
+    let bad = |bx: u32, by: u32| StoreFault::BadBlock {
+        level: 0,
+        bx,
+        by,
+        fault: BlockFault::Excess { bytes: 1 },
+    };
+    let both = plain_store(alloc, &[(3, 11), (2, 41)])?;
+    match read_heights_beside(&rt, alloc, both.as_slice()) {
+        Ok(_) => panic!(rt; "a store"),
+        Err(fault) => assert_eq!(rt; fault, bad(3, 11)),
+    }
+    let late = plain_store(alloc, &[(2, 41)])?;
+    match read_heights_beside(&rt, alloc, late.as_slice()) {
+        Ok(_) => panic!(rt; "a store"),
+        Err(fault) => assert_eq!(rt; fault, bad(2, 41)),
+    }
+    // The same where the last block is cut short.
+    match read_heights_beside(&rt, alloc, &late[..late.len() - 1]) {
+        Ok(_) => panic!(rt; "a store"),
+        Err(fault) => assert_eq!(rt; fault, bad(2, 41)),
+    }
+    let whole = plain_store(alloc, &[])?;
+    let cut = StoreFault::CutShort { offset: 300000 };
+    match read_heights_beside(&rt, alloc, &whole[..300000]) {
+        Ok(_) => panic!(rt; "a store"),
+        Err(fault) => assert_eq!(rt; fault, cut),
+    }
+    Ok(())
+}

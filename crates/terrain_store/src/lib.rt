@@ -13,7 +13,7 @@ mod tests;
 
 pub use block_heights::{Block, Kind};
 pub use packing::{pack, pack_by};
-pub use reading::read_store;
+pub use reading::{read_store, read_store_beside};
 pub use rice_residuals::NoMemory;
 pub use shape::Shape;
 pub use store::Store;

@@ -98,6 +98,35 @@ fn reads_bytes(rt: HostRuntime) -> Result<(), Fail> {
     Ok(())
 }
 
+#[test]
+fn reads_bytes_side_by_side(rt: HostRuntime) -> Result<(), Fail> {
+    let alloc = rt.alloc();
+    let mut heights = Vec::new(alloc);
+    for n in 0..160801u32 {
+        heights.push((n % 401 * 3 + n / 401 * 5 % 700) as i16)?;
+    }
+    let mut whole = heights;
+    whole.resize(160801, 0)?;
+    let packed = pack(alloc, &Grid::new(401, 401, whole), 4)?;
+    let mut bytes = Vec::new(alloc);
+    bytes.extend_from_slice(packed.bytes())?;
+    let store = read_store_beside(&rt, alloc, bytes.clone()?)?;
+    assert!(rt; store.bytes() == packed.bytes());
+    assert_eq!(rt;
+        (store.least(), store.most(), store.blocks()),
+        (0, 1895, packed.blocks())
+    );
+    bytes.push(0)?;
+    let excess = StoreFault::Excess {
+        offset: packed.bytes().len() as u64,
+    };
+    match read_store_beside(&rt, alloc, bytes) {
+        Ok(_) => panic!(rt; "a store"),
+        Err(fault) => assert_eq!(rt; fault, excess),
+    }
+    Ok(())
+}
+
 // The cells from one to another.
 fn region(x0: i32, y0: i32, x1: i32, y1: i32) -> Region {
     Region { x0, y0, x1, y1 }
