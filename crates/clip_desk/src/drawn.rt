@@ -190,10 +190,8 @@ pub fn put_frame<S: Shelf, K: Sink>(
         (S.told shelf.old) (S.told shelf.new) (K.told out.old) (K.told out.new) }
     ensures reason { HadReason result (S.told shelf.old) (S.told shelf.new) (K.told out.old) (K.told out.new) }
 {
-    match put(shelf, name, drawn.text.as_slice()) {
-        Ok(()) => write(out, drawn.line.as_bytes()),
-        Err(halt) => Err(halt),
-    }
+    put(shelf, name, drawn.text.as_slice())?;
+    write(out, drawn.line.as_bytes())
 }
 
 /// Puts a frame under its number, and then writes its line.

@@ -42,10 +42,8 @@ fn fly_frame<R: Threads + Sync, F: Filler + Sync, S: Shelf, K: Sink>(
 {
     others_keep_parts();
     steps_go_on();
-    match begin(means.alloc, flight, out) {
-        Ok(()) => fly_round(means, flight, workers, shelf, out),
-        Err(halt) => Err(halt),
-    }
+    begin(means.alloc, flight, out)?;
+    fly_round(means, flight, workers, shelf, out)
 }
 
 // Does a line of a flight.
@@ -108,10 +106,7 @@ fn take_lines<R: Threads + Sync, F: Filler + Sync, S: Shelf, K: Sink>(
 {
     lines_keep_rest();
     for line in lines {
-        match take_line(means, flight, workers, *line, shelf, out) {
-            Ok(()) => {}
-            Err(halt) => return Err(halt),
-        }
+        take_line(means, flight, workers, *line, shelf, out)?;
     }
     Ok(())
 }
@@ -155,8 +150,6 @@ pub fn fly<R: Threads + Sync, F: Filler + Sync, S: Shelf, K: Sink>(
         text: Vec::new(means.alloc),
     };
     let lines = script.lines.as_slice();
-    match take_lines(means, &mut flight, workers, lines, shelf, out) {
-        Ok(()) => Ok(flight.tally),
-        Err(halt) => Err(halt),
-    }
+    take_lines(means, &mut flight, workers, lines, shelf, out)?;
+    Ok(flight.tally)
 }

@@ -104,10 +104,7 @@ fn fly_rounds<R: Threads + Sync, F: Filler + Sync, S: Shelf, K: Sink>(
         if is_settled(&flight.book) {
             return Ok(());
         }
-        match fly_round(means, flight, workers, shelf, out) {
-            Ok(()) => {}
-            Err(halt) => return Err(halt),
-        }
+        fly_round(means, flight, workers, shelf, out)?;
     }
     Ok(())
 }

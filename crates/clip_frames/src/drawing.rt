@@ -66,8 +66,6 @@ pub fn print_frame(
     ensures text { IfOk result (λ text.
         text.items ≡ text_of (open_frame note.now) (mesh clip.now.land.terrain k note.now.actives)) }
 {
-    match draw_frame(rt, alloc, clip, pass, note, k) {
-        Ok(mesh) => print(alloc, &mesh, note),
-        Err(NoMemory) => Err(NoMemory),
-    }
+    let mesh = draw_frame(rt, alloc, clip, pass, note, k)?;
+    print(alloc, &mesh, note)
 }

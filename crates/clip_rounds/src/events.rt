@@ -79,10 +79,8 @@ pub(crate) fn claim<K: Sink>(
     let claimed = flight.book.claim(pass);
     let answer = told_of_claim(&claimed);
     let job = job_in(claimed);
-    match tell(alloc, pass, Event::Claim, answer, out) {
-        Ok(()) => Ok(job),
-        Err(halt) => Err(halt),
-    }
+    tell(alloc, pass, Event::Claim, answer, out)?;
+    Ok(job)
 }
 
 // Pass `pass` gives its job back.

@@ -47,13 +47,13 @@ fn claim_jobs<K: Sink>(
     steps_go_on();
     let mut tasks = Vec::new(alloc);
     for pass in 0..workers {
-        match claim(alloc, flight, pass, out) {
-            Ok(Some(job)) => match tasks.push(Task::Fill { pass, job }) {
+        let claimed = claim(alloc, flight, pass, out)?;
+        match claimed {
+            Some(job) => match tasks.push(Task::Fill { pass, job }) {
                 Ok(()) => {}
                 Err(_) => return Err(Halt::NoMemory),
             },
-            Ok(None) => return Ok(tasks),
-            Err(halt) => return Err(halt),
+            None => return Ok(tasks),
         }
     }
     Ok(tasks)
@@ -100,10 +100,7 @@ fn give_jobs<K: Sink>(
     steps_go_on();
     let mut pass = 0u8;
     for done in jobs {
-        match give_one(alloc, flight, pass, done, out) {
-            Ok(()) => {}
-            Err(halt) => return Err(halt),
-        }
+        give_one(alloc, flight, pass, done, out)?;
         pass += 1;
     }
     Ok(())
@@ -159,10 +156,7 @@ fn publish_ripe<K: Sink>(alloc: Global, flight: &mut Flight, out: &mut K) -> Res
 {
     let levels = flight.book.levels();
     for level in (0..levels).rev() {
-        match publish_if_ripe(alloc, flight, level, out) {
-            Ok(()) => {}
-            Err(halt) => return Err(halt),
-        }
+        publish_if_ripe(alloc, flight, level, out)?;
     }
     Ok(())
 }
@@ -183,13 +177,9 @@ fn take_home<R: Threads + Sync, F: Filler, S: Shelf, K: Sink>(
         (S.told shelf.old) (S.told shelf.new) (K.told out.old) (K.told out.new) }
     ensures stays { OnOk result (Stays flight.old.book flight.new.book) }
 {
-    match give_jobs(means.alloc, flight, worked.jobs, out) {
-        Ok(()) => match end_frame(means, flight, worked.mesh, shelf, out) {
-            Ok(()) => publish_ripe(means.alloc, flight, out),
-            Err(halt) => Err(halt),
-        },
-        Err(halt) => Err(halt),
-    }
+    give_jobs(means.alloc, flight, worked.jobs, out)?;
+    end_frame(means, flight, worked.mesh, shelf, out)?;
+    publish_ripe(means.alloc, flight, out)
 }
 
 /// One round with so many workers, at most 15: the passes below that number claim, what they are given is filled while
@@ -211,11 +201,9 @@ pub fn fly_round<R: Threads + Sync, F: Filler + Sync, S: Shelf, K: Sink>(
         (S.told shelf.old) (S.told shelf.new) (K.told out.old) (K.told out.new) }
     ensures stays { OnOk result (Stays flight.old.book flight.new.book) }
 {
-    match claim_jobs(means.alloc, flight, workers, out) {
-        Ok(tasks) => match work(means, &flight.book, tasks) {
-            Ok(worked) => take_home(means, flight, worked, shelf, out),
-            Err(_) => Err(Halt::NoMemory),
-        },
-        Err(halt) => Err(halt),
+    let tasks = claim_jobs(means.alloc, flight, workers, out)?;
+    match work(means, &flight.book, tasks) {
+        Ok(worked) => take_home(means, flight, worked, shelf, out),
+        Err(_) => Err(Halt::NoMemory),
     }
 }

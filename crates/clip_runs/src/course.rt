@@ -65,10 +65,8 @@ fn fly_course<R: Threads + Sync, F: Filler + Sync, S: Shelf, K: Sink>(
         (S.told shelf.old) (S.told shelf.new) (K.told out.old) (K.told out.new) }
     ensures reason { HadReason result (S.told shelf.old) (S.told shelf.new) (K.told out.old) (K.told out.new) }
 {
-    match fly(means, script, workers, shelf, out) {
-        Ok(_) => Ok(()),
-        Err(halt) => Err(halt),
-    }
+    fly(means, script, workers, shelf, out)?;
+    Ok(())
 }
 
 // Does a course.

@@ -275,10 +275,7 @@ fn take_steps<R: Threads + Sync, F: Filler, S: Shelf, K: Sink>(
     ensures reason { HadReason result (S.told shelf.old) (S.told shelf.new) (K.told out.old) (K.told out.new) }
 {
     for step in steps {
-        match take_step(means, stage, step, shelf, out) {
-            Ok(()) => {}
-            Err(halt) => return Err(halt),
-        }
+        take_step(means, stage, step, shelf, out)?;
     }
     Ok(())
 }

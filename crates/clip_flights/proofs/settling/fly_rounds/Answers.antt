@@ -1,4 +1,5 @@
 use Rattle.std.proofs.Common.{sym, ◌∙◌}
+use Rattle.std.proofs.lemmas.Result.{err_from_is_err_and}
 use Rattle.clip_flights.proofs.LongFlights.{jobless, settling_done, settling_end, settling_halted, settling_more, settling_start}
 use Rattle.clip_flights.proofs.settling.fly_rounds.Goals as goal
 
@@ -14,14 +15,15 @@ flown-preserved g c =
     settling_more g.S.Shelf.leaves c.args.means.now.name.now c.args.flight.now c.flown.flight c.args.workers c.args.most c.flown.counter
     (g.S.Shelf.told c.args.shelf.now) (g.S.Shelf.told c.flown.shelf) (g.K.Sink.told c.args.out.now) (g.K.Sink.told c.flown.out) c.flown.invariant
     c.fly_round.new.flight (g.S.Shelf.told c.fly_round.new.shelf) (g.K.Sink.told c.fly_round.new.out) c.flown-test.true (sym c.is_settled.ensures ∙ c.if-is_settled.false)
-    c.laws_below.ensures c.requires.workers c.in-Ok.ensures.flew c.in-Ok.ensures.stays
+    c.laws_below.ensures c.requires.workers c.in_ok-fly_round.ensures.flew c.in_ok-fly_round.ensures.stays
 
-pub returns-in-Err-clause-flew : goal.returns-in-Err-clause-flew
-returns-in-Err-clause-flew g c =
-    settling_halted g.S.Shelf.leaves c.args.means.now.name.now c.args.flight.now c.flown.flight c.args.workers c.args.most c.flown.counter
+pub returns-in_err-fly_round-clause-flew : goal.returns-in_err-fly_round-clause-flew
+returns-in_err-fly_round-clause-flew g c =
+    let p = err_from_is_err_and c.from_residual.result c.from_residual.ensures.1 in
+    rw (p.1, p.2) (settling_halted g.S.Shelf.leaves c.args.means.now.name.now c.args.flight.now c.flown.flight c.args.workers c.args.most c.flown.counter
     (g.S.Shelf.told c.args.shelf.now) (g.S.Shelf.told c.flown.shelf) (g.K.Sink.told c.args.out.now) (g.K.Sink.told c.flown.out) c.flown.invariant
     c.fly_round.new.flight (g.S.Shelf.told c.fly_round.new.shelf) (g.K.Sink.told c.fly_round.new.out) c.flown-test.true (sym c.is_settled.ensures ∙ c.if-is_settled.false)
-    c.in-Err.halt c.in-Err.ensures.flew
+    _ c.in_err-fly_round.ensures.flew)
 
 pub returns-then-is_settled-clause-flew : goal.returns-then-is_settled-clause-flew
 returns-then-is_settled-clause-flew g c =

@@ -1,6 +1,7 @@
 use Rattle.std.proofs.Common.{◌≡◌, List, [], subst, sym, ◌∙◌}
 use Rattle.std.proofs.lemmas.List.{nil_from_length}
 use Rattle.std.specs.Vec.Iter.{into_iter_items}
+use Rattle.std.proofs.lemmas.Result.{err_from_is_err_and}
 use Rattle.decode_rounds.specs.declared.tasks.Done.{Done}
 use Rattle.run_actions.specs.Runs.{leaves_nothing}
 use Rattle.clip_rounds.proofs.RoundSteps.{IsGiving, giving_end, giving_frame, giving_halted, giving_more, giving_on, giving_start}
@@ -15,22 +16,23 @@ pub loop-done-preserved : goal.loop-done-preserved
 loop-done-preserved g c =
     let on = subst (λ (all : List Done). IsGiving (Unit {0}) leaves_nothing c.args.flight.now c.loop-done.flight c.loop-done.pass all (g.K.Sink.told c.args.out.now) (g.K.Sink.told c.loop-done.out)) c.in-Some.ensures.steps.0 c.loop-done.invariant in
     giving_more {A = Unit {0}} leaves_nothing c.args.flight.now c.loop-done.flight c.give_one.new.flight c.loop-done.pass c.in-Some.done (into_iter_items c.next.new.self) (g.K.Sink.told c.args.out.now) (g.K.Sink.told c.loop-done.out) (g.K.Sink.told c.give_one.new.out)
-    c.steps_go_on.ensures c.others_keep_parts.ensures on c.give_one.ensures.does c.give_one.ensures.had tt c.in-Ok.ensures.flew
+    c.steps_go_on.ensures c.others_keep_parts.ensures on c.give_one.ensures.does c.give_one.ensures.had tt c.in_ok-give_one.ensures.flew
 
-pub returns-in-Err-clause-flew : goal.returns-in-Err-clause-flew
-returns-in-Err-clause-flew g c =
+pub returns-in_err-give_one-clause-flew : goal.returns-in_err-give_one-clause-flew
+returns-in_err-give_one-clause-flew g c =
     let on = subst (λ (all : List Done). IsGiving (Unit {0}) leaves_nothing c.args.flight.now c.loop-done.flight c.loop-done.pass all (g.K.Sink.told c.args.out.now) (g.K.Sink.told c.loop-done.out)) c.in-Some.ensures.steps.0 c.loop-done.invariant in
-    giving_halted {A = Unit {0}} leaves_nothing c.args.flight.now c.loop-done.flight c.give_one.new.flight c.loop-done.pass c.in-Some.done (into_iter_items c.next.new.self) (g.K.Sink.told c.args.out.now) (g.K.Sink.told c.loop-done.out) (g.K.Sink.told c.give_one.new.out)
-    c.steps_go_on.ensures c.others_keep_parts.ensures on c.give_one.ensures.does c.give_one.ensures.had c.in-Err.halt c.in-Err.ensures.flew
+    let p = err_from_is_err_and c.from_residual.result c.from_residual.ensures.1 in
+    rw (p.1, p.2) (giving_halted {A = Unit {0}} leaves_nothing c.args.flight.now c.loop-done.flight c.give_one.new.flight c.loop-done.pass c.in-Some.done (into_iter_items c.next.new.self) (g.K.Sink.told c.args.out.now) (g.K.Sink.told c.loop-done.out) (g.K.Sink.told c.give_one.new.out)
+    c.steps_go_on.ensures c.others_keep_parts.ensures on c.give_one.ensures.does c.give_one.ensures.had _ c.in_err-give_one.ensures.flew)
 
-pub returns-in-Err-clause-stays : goal.returns-in-Err-clause-stays
-returns-in-Err-clause-stays g c =
+pub returns-in_err-give_one-clause-stays : goal.returns-in_err-give_one-clause-stays
+returns-in_err-give_one-clause-stays g c =
     let on = subst (λ (all : List Done). IsGiving (Unit {0}) leaves_nothing c.args.flight.now c.loop-done.flight c.loop-done.pass all (g.K.Sink.told c.args.out.now) (g.K.Sink.told c.loop-done.out)) c.in-Some.ensures.steps.0 c.loop-done.invariant in
     giving_on {A = Unit {0}} leaves_nothing c.args.flight.now c.loop-done.flight c.give_one.new.flight c.loop-done.pass c.in-Some.done (into_iter_items c.next.new.self) (g.K.Sink.told c.args.out.now) (g.K.Sink.told c.loop-done.out) (g.K.Sink.told c.give_one.new.out)
     c.steps_go_on.ensures c.others_keep_parts.ensures on c.give_one.ensures.does c.give_one.ensures.had
 
-pub returns-in-Err-clause-frame : goal.returns-in-Err-clause-frame
-returns-in-Err-clause-frame g c =
+pub returns-in_err-give_one-clause-frame : goal.returns-in_err-give_one-clause-frame
+returns-in_err-give_one-clause-frame g c =
     let on = subst (λ (all : List Done). IsGiving (Unit {0}) leaves_nothing c.args.flight.now c.loop-done.flight c.loop-done.pass all (g.K.Sink.told c.args.out.now) (g.K.Sink.told c.loop-done.out)) c.in-Some.ensures.steps.0 c.loop-done.invariant in
     giving_frame {A = Unit {0}} leaves_nothing c.args.flight.now c.loop-done.flight c.give_one.new.flight c.loop-done.pass c.in-Some.done (into_iter_items c.next.new.self) (g.K.Sink.told c.args.out.now) (g.K.Sink.told c.loop-done.out) (g.K.Sink.told c.give_one.new.out)
     c.steps_go_on.ensures c.others_keep_parts.ensures on c.give_one.ensures.does c.give_one.ensures.had
