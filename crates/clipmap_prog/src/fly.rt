@@ -75,7 +75,12 @@ fn fetch_script<'a, S: Shelf>(
 }
 
 // The script of a `fly`, and then its inputs.
-fn stage<'a, S: Shelf>(alloc: Global, shelf: &mut S, fly: &FlyWords<'a>) -> Result<Staged, Stop<'a>>
+fn stage<'a, R: Threads + Sync, S: Shelf>(
+    rt: &R,
+    alloc: Global,
+    shelf: &mut S,
+    fly: &FlyWords<'a>,
+) -> Result<Staged, Stop<'a>>
     requires few_inputs { length fly.now.inputs.now ≤ 64 }
 
     // It finds what the definition's reading finds, by as many calls at most.
@@ -96,7 +101,7 @@ fn stage<'a, S: Shelf>(alloc: Global, shelf: &mut S, fly: &FlyWords<'a>) -> Resu
     ensures faults_stay { (S.told shelf.old).faults ≤ (S.told shelf.new).faults }
 {
     let script = fetch_script(alloc, shelf, fly.script)?;
-    let store = read_land(alloc, shelf, fly.inputs, script.levels)?;
+    let store = read_land(rt, alloc, shelf, fly.inputs, script.levels)?;
     Ok(Staged { script, store })
 }
 
@@ -139,7 +144,7 @@ pub(crate) fn run_fly<R: Threads + Sync, S: Shelf, K: Sink>(
     ensures status { IfOk result (λ status. (status ≡ 0) ⊎ (status ≡ 2)) }
     ensures reason { HadReason result (S.told shelf.old) (S.told shelf.new) (K.told out.old) (K.told out.new) }
 {
-    match stage(alloc, shelf, fly) {
+    match stage(rt, alloc, shelf, fly) {
         Ok(staged) => ended(
             0,
             fly_staged(rt, alloc, &staged, fly.workers, fly.out, shelf, out),

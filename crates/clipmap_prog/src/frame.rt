@@ -59,7 +59,7 @@ pub(crate) fn run_frame<R: Threads + Sync, S: Shelf, K: Sink>(
     ensures status { IfOk result (λ status. (status ≡ 0) ⊎ (status ≡ 2)) }
     ensures reason { HadReason result (S.told shelf.old) (S.told shelf.new) (K.told out.old) (K.told out.new) }
 {
-    match read_land(alloc, shelf, frame.inputs, frame.levels) {
+    match read_land(rt, alloc, shelf, frame.inputs, frame.levels) {
         Ok(store) => ended(0, draw(rt, alloc, &store, frame, shelf, out)),
         Err(Stop::Refused(fault)) => ended(2, write_fault(alloc, out, fault)),
         Err(Stop::Halted(halt)) => Err(halt),

@@ -17,8 +17,9 @@ use crate::tile_files::read_tiles;
 use outer_shelf::{Fetched, Shelf};
 use run_actions::Halt;
 use std::alloc::Global;
+use std::thread::Threads;
 use store_model::StoreFault;
-use terrain_store::{Store, pack, read_store};
+use terrain_store::{Store, pack, read_store_beside};
 
 // The inputs of a run, read.
 #[derive(Drop)]
@@ -30,12 +31,16 @@ pub(crate) enum Ground {
 }
 
 // The store of the bytes of a file, if they are one.
-fn judge_kept<'a>(alloc: Global, bytes: Vec<u8>) -> Result<Store, Stop<'a>>
+fn judge_kept<'a, R: Threads + Sync>(
+    rt: &R,
+    alloc: Global,
+    bytes: Vec<u8>,
+) -> Result<Store, Stop<'a>>
     ensures found { (verdict : Verdict) → IsVerdict bytes.items verdict
         → Finds kept_view result (store_by (vec_len bytes) verdict) }
     ensures reason { OnStop result ⊥ }
 {
-    match read_store(alloc, bytes) {
+    match read_store_beside(rt, alloc, bytes) {
         Ok(store) => Ok(store),
         Err(StoreFault::NoMemory) => Err(Stop::Halted(Halt::NoMemory)),
         Err(fault) => Err(Stop::Refused(Fault::Store(fault))),
@@ -43,7 +48,12 @@ fn judge_kept<'a>(alloc: Global, bytes: Vec<u8>) -> Result<Store, Stop<'a>>
 }
 
 // The store of the file of that name, by one fetch.
-fn fetch_kept<'a, S: Shelf>(alloc: Global, shelf: &mut S, name: &'a str) -> Result<Store, Stop<'a>>
+fn fetch_kept<'a, R: Threads + Sync, S: Shelf>(
+    rt: &R,
+    alloc: Global,
+    shelf: &mut S,
+    name: &'a str,
+) -> Result<Store, Stop<'a>>
     ensures found { (verdict : Verdict)
         → IfSome (S.told shelf.old).files (λ files. IsVerdictOnFile (finite.get files name.now) verdict)
         → IfSome (S.told shelf.old).files (λ files. Finds kept_view result
@@ -54,7 +64,7 @@ fn fetch_kept<'a, S: Shelf>(alloc: Global, shelf: &mut S, name: &'a str) -> Resu
     ensures faults_stay { (S.told shelf.old).faults ≤ (S.told shelf.new).faults }
 {
     match shelf.fetch(alloc, name, STORE_LIMIT) {
-        Fetched::Found(bytes) => judge_kept(alloc, bytes),
+        Fetched::Found(bytes) => judge_kept(rt, alloc, bytes),
         Fetched::Absent => Err(Stop::Refused(Fault::File(name, FileFault::Absent))),
         Fetched::TooLong { length, limit } => {
             let fault = FileFault::TooLong { length, limit };
@@ -66,7 +76,8 @@ fn fetch_kept<'a, S: Shelf>(alloc: Global, shelf: &mut S, name: &'a str) -> Resu
 }
 
 // The inputs of a run: one store, or tiles.
-fn read_ground<'a, S: Shelf>(
+fn read_ground<'a, R: Threads + Sync, S: Shelf>(
+    rt: &R,
     alloc: Global,
     shelf: &mut S,
     inputs: &'a [String],
@@ -83,7 +94,7 @@ fn read_ground<'a, S: Shelf>(
     ensures faults_stay { (S.told shelf.old).faults ≤ (S.told shelf.new).faults }
 {
     match store_name(inputs) {
-        Some(name) => Ok(Ground::Store(fetch_kept(alloc, shelf, name)?)),
+        Some(name) => Ok(Ground::Store(fetch_kept(rt, alloc, shelf, name)?)),
         None => Ok(Ground::Tiles(read_tiles(alloc, shelf, inputs)?)),
     }
 }
@@ -117,7 +128,8 @@ fn levelled<'a>(store: Store, asked: u8) -> Result<Store, Stop<'a>>
 
 // The inputs of a run with so many levels, as a store: tiles are packed, and a store has to have as many.
 #[tactic(auto, unfolding(crate::specs::Lands::land_reading))]
-pub(crate) fn read_land<'a, S: Shelf>(
+pub(crate) fn read_land<'a, R: Threads + Sync, S: Shelf>(
+    rt: &R,
     alloc: Global,
     shelf: &mut S,
     inputs: &'a [String],
@@ -141,7 +153,7 @@ pub(crate) fn read_land<'a, S: Shelf>(
     ensures files_stay { (S.told shelf.new).files ≡ (S.told shelf.old).files }
     ensures faults_stay { (S.told shelf.old).faults ≤ (S.told shelf.new).faults }
 {
-    match read_ground(alloc, shelf, inputs)? {
+    match read_ground(rt, alloc, shelf, inputs)? {
         Ground::Tiles(tiles) => packed(alloc, tiles, levels),
         Ground::Store(store) => levelled(store, levels),
     }

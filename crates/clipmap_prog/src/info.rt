@@ -17,6 +17,7 @@ use clipmap_words::InfoWords;
 use outer_shelf::{Shelf, Sink};
 use run_actions::{Halt, write};
 use std::alloc::{AllocError, Global};
+use std::thread::Threads;
 use terrain_lines::{heights_line, store_line, terrain_line, tiles_line};
 
 // The three lines of an `info`.
@@ -90,7 +91,8 @@ fn tell<K: Sink>(alloc: Global, source: &Source, out: &mut K) -> Result<(), Halt
 
 // Runs an `info`. `Ok` is the status: 0 where it is done, and 2 where it is refused and the line of its
 // fault is written.
-pub(crate) fn run_info<S: Shelf, K: Sink>(
+pub(crate) fn run_info<R: Threads + Sync, S: Shelf, K: Sink>(
+    rt: &R,
     alloc: Global,
     info: &InfoWords<'_>,
     shelf: &mut S,
@@ -103,7 +105,7 @@ pub(crate) fn run_info<S: Shelf, K: Sink>(
     ensures status { IfOk result (λ status. (status ≡ 0) ⊎ (status ≡ 2)) }
     ensures reason { HadReason result (S.told shelf.old) (S.told shelf.new) (K.told out.old) (K.told out.new) }
 {
-    match read_sources(alloc, shelf, info.inputs) {
+    match read_sources(rt, alloc, shelf, info.inputs) {
         Ok(source) => ended(0, tell(alloc, &source, out)),
         Err(Stop::Refused(fault)) => ended(2, write_fault(alloc, out, fault)),
         Err(Stop::Halted(halt)) => Err(halt),

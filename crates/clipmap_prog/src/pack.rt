@@ -18,6 +18,7 @@ use height_pyramid::Grid;
 use outer_shelf::{Shelf, Sink};
 use run_actions::{Halt, put, write};
 use std::alloc::Global;
+use std::thread::Threads;
 use store_writer::{canonical_bytes, canonical_bytes_by};
 use terrain_lines::packed_line;
 
@@ -113,7 +114,8 @@ pub(crate) fn run_pack<S: Shelf, K: Sink>(
 
 // Runs a `packq`. `Ok` is the status: 0 where it is done, and 2 where it is refused and the line of its
 // fault is written.
-pub(crate) fn run_pack_by<S: Shelf, K: Sink>(
+pub(crate) fn run_pack_by<R: Threads + Sync, S: Shelf, K: Sink>(
+    rt: &R,
     alloc: Global,
     words: &PackByWords<'_>,
     shelf: &mut S,
@@ -126,7 +128,7 @@ pub(crate) fn run_pack_by<S: Shelf, K: Sink>(
     ensures status { IfOk result (λ status. (status ≡ 0) ⊎ (status ≡ 2)) }
     ensures reason { HadReason result (S.told shelf.old) (S.told shelf.new) (K.told out.old) (K.told out.new) }
 {
-    match read_sources(alloc, shelf, words.inputs) {
+    match read_sources(rt, alloc, shelf, words.inputs) {
         Ok(source) => {
             let PackByWords {
                 levels,

@@ -77,7 +77,8 @@ fn fetch_script<'a, S: Shelf>(
 }
 
 // The script of a `play`, and then its inputs.
-fn stage<'a, S: Shelf>(
+fn stage<'a, R: Threads + Sync, S: Shelf>(
+    rt: &R,
     alloc: Global,
     shelf: &mut S,
     play: &PlayWords<'a>,
@@ -102,7 +103,7 @@ fn stage<'a, S: Shelf>(
     ensures faults_stay { (S.told shelf.old).faults ≤ (S.told shelf.new).faults }
 {
     let script = fetch_script(alloc, shelf, play.script)?;
-    let store = read_land(alloc, shelf, play.inputs, script.levels)?;
+    let store = read_land(rt, alloc, shelf, play.inputs, script.levels)?;
     Ok(Staged { script, store })
 }
 
@@ -140,7 +141,7 @@ pub(crate) fn run_play<R: Threads + Sync, S: Shelf, K: Sink>(
     ensures status { IfOk result (λ status. (status ≡ 0) ⊎ (status ≡ 2)) }
     ensures reason { HadReason result (S.told shelf.old) (S.told shelf.new) (K.told out.old) (K.told out.new) }
 {
-    match stage(alloc, shelf, play) {
+    match stage(rt, alloc, shelf, play) {
         Ok(staged) => ended(0, play_staged(rt, alloc, &staged, play.out, shelf, out)),
         Err(Stop::Refused(fault)) => ended(2, write_fault(alloc, out, fault)),
         Err(Stop::Halted(halt)) => Err(halt),

@@ -40,9 +40,9 @@ pub(crate) fn run<R: Threads + Sync, S: Shelf, K: Sink>(
         Command::Demo(demo) => run_demo(rt, alloc, demo, shelf, out),
         Command::Fly(fly) => run_fly(rt, alloc, fly, shelf, out),
         Command::Frame(frame) => run_frame(rt, alloc, frame, shelf, out),
-        Command::Info(info) => run_info(alloc, info, shelf, out),
+        Command::Info(info) => run_info(rt, alloc, info, shelf, out),
         Command::Pack(pack) => run_pack(alloc, pack, shelf, out),
-        Command::PackBy(pack) => run_pack_by(alloc, pack, shelf, out),
+        Command::PackBy(pack) => run_pack_by(rt, alloc, pack, shelf, out),
         Command::Play(play) => run_play(rt, alloc, play, shelf, out),
     }
 }

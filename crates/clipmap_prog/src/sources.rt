@@ -14,6 +14,7 @@ use crate::tile_files::read_tiles;
 use height_pyramid::Grid;
 use outer_shelf::Shelf;
 use std::alloc::Global;
+use std::thread::Threads;
 
 // The inputs of a command, read.
 #[derive(Drop)]
@@ -37,7 +38,8 @@ impl Source {
 }
 
 // The inputs of a command: one store, or tiles.
-pub(crate) fn read_sources<'a, S: Shelf>(
+pub(crate) fn read_sources<'a, R: Threads + Sync, S: Shelf>(
+    rt: &R,
     alloc: Global,
     shelf: &mut S,
     inputs: &'a [String],
@@ -54,7 +56,7 @@ pub(crate) fn read_sources<'a, S: Shelf>(
     ensures faults_stay { (S.told shelf.old).faults ≤ (S.told shelf.new).faults }
 {
     match store_name(inputs) {
-        Some(name) => Ok(Source::Store(fetch_store(alloc, shelf, name)?)),
+        Some(name) => Ok(Source::Store(fetch_store(rt, alloc, shelf, name)?)),
         None => Ok(Source::Tiles(read_tiles(alloc, shelf, inputs)?)),
     }
 }

@@ -11,19 +11,24 @@ use crate::stored::StoreFile;
 use outer_shelf::{Fetched, Shelf};
 use run_actions::Halt;
 use std::alloc::Global;
+use std::thread::Threads;
 use store_model::StoreFault;
-use store_reader::{StoredHeights, read_heights};
+use store_reader::{StoredHeights, read_heights_beside};
 
 /// The most bytes that the file of a store may have.
 pub const STORE_LIMIT: u64 = 1_073_741_824;
 
 // The store of the bytes of a file, if they are one.
-fn judge_store<'a>(alloc: Global, bytes: &[u8]) -> Result<StoreFile, Stop<'a>>
+fn judge_store<'a, R: Threads + Sync>(
+    rt: &R,
+    alloc: Global,
+    bytes: &[u8],
+) -> Result<StoreFile, Stop<'a>>
     ensures found { (verdict : Verdict) → IsVerdict bytes.now verdict
         → Finds store_view result (store_by (length bytes.now) verdict) }
     ensures reason { OnStop result ⊥ }
 {
-    match read_heights(alloc, bytes) {
+    match read_heights_beside(rt, alloc, bytes) {
         Ok(StoredHeights { header, grid }) => Ok(StoreFile {
             header,
             grid,
@@ -35,7 +40,8 @@ fn judge_store<'a>(alloc: Global, bytes: &[u8]) -> Result<StoreFile, Stop<'a>>
 }
 
 // The store of the file of that name, by one fetch. The file's bytes are gone once it is read.
-pub(crate) fn fetch_store<'a, S: Shelf>(
+pub(crate) fn fetch_store<'a, R: Threads + Sync, S: Shelf>(
+    rt: &R,
     alloc: Global,
     shelf: &mut S,
     name: &'a str,
@@ -50,7 +56,7 @@ pub(crate) fn fetch_store<'a, S: Shelf>(
     ensures faults_stay { (S.told shelf.old).faults ≤ (S.told shelf.new).faults }
 {
     match shelf.fetch(alloc, name, STORE_LIMIT) {
-        Fetched::Found(bytes) => judge_store(alloc, bytes.as_slice()),
+        Fetched::Found(bytes) => judge_store(rt, alloc, bytes.as_slice()),
         Fetched::Absent => Err(Stop::Refused(Fault::File(name, FileFault::Absent))),
         Fetched::TooLong { length, limit } => {
             let fault = FileFault::TooLong { length, limit };
