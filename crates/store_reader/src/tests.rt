@@ -230,7 +230,10 @@ fn blocks_row_by_row(rt: HostRuntime) -> Result<(), Fail> {
 const SIDE: usize = 400;
 
 // The height in a column and a row of it.
-fn height_at(x: usize, y: usize) -> i16 {
+fn height_at(x: usize, y: usize) -> i16
+    requires { x < 400 }
+    requires { y < 400 }
+{
     ((x * 7 + y * 13) % 5000) as i16 - 2000
 }
 
