@@ -1,5 +1,5 @@
 -- The first of a list's elements that pass a test, one element at a time.
-use Rattle.std.proofs.Common.{◌≡◌, ℕ, ◌+◌, ◌-◌, ◌<◌, ◌≤◌, Bool, true, false, List, [], ◌∷◌, ◌++◌, filter, flat_map, reverse, cond, Option, Some, None, unwrap_or, refl, ap, sym, ◌∙◌, arith}
+use Rattle.std.proofs.Common.{◌≡◌, ℕ, zero, suc, ◌+◌, ◌-◌, ◌<◌, ◌≤◌, Bool, true, false, List, [], ◌∷◌, ◌++◌, filter, flat_map, reverse, cond, Option, Some, None, refl, ap, sym, ◌∙◌, arith}
 use Rattle.std.specs.List.{range_with_len}
 use Rattle.std.specs.Option.{IfSome, option_or}
 use Rattle.std.proofs.lemmas.List.Elements.{filter-append}
@@ -32,15 +32,23 @@ first_down q j n old new b some few e g h =
     let below : j - 1 < n = omega arith in
     h ∙ first_after q (reverse (range_with_len j (n - j))) (j - 1) old b e g ∙ ap (λ (i : ℕ). first_of (filter q (reverse (range_with_len i (n - i)) ++ (j - 1) ∷ []))) back ∙ ap (λ (xs : List ℕ). first_of (filter q xs)) (sym (down (j - 1) n below))
 
+-- of a range whose first number passes, and of one whose first number doesn't
+pub first_here : (q : ℕ → Bool) (a n : ℕ) → 0 < n → q a ≡ true → first_of (filter q (range_with_len a n)) ≡ Some a
+first_here q a zero some e = absurd (omega arith)
+first_here q a (suc n) some e =
+    let rest = filter q (range_with_len (a + 1) n) in
+    ap (λ (b : Bool). first_of (cond b (a ∷ rest) rest)) e
+
+pub first_later : (q : ℕ → Bool) (a n m : ℕ) → n ≡ suc m → q a ≡ false → first_of (filter q (range_with_len (a + 1) m)) ≡ first_of (filter q (range_with_len a n))
+first_later q a n m e f =
+    let rest = filter q (range_with_len (a + 1) m) in
+    sym (ap (λ (k : ℕ). first_of (filter q (range_with_len a k))) e ∙ ap (λ (b : Bool). first_of (cond b (a ∷ rest) rest)) f)
+
 -- what is found is one of the numbers
 pub found_below : (n : ℕ) (old : Option ℕ) (b : Bool) (i : ℕ) → i < n → IfSome old (λ l. l < n) → IfSome (or_found old b i) (λ l. l < n)
 found_below n (Some m) b i h k = k
 found_below n None true i h k = h
 found_below n None false i h k = tt
-
-pub unwrapped_below : (o : Option ℕ) (n : ℕ) → IfSome o (λ l. l < n) → 1 ≤ n → unwrap_or o 0 < n
-unwrapped_below None n h some = some
-unwrapped_below (Some m) n h some = h
 
 -- the first of two lists together
 first_append : {X : Type 0} (xs ys : List X) → first_of (xs ++ ys) ≡ option_or (first_of xs) (first_of ys)

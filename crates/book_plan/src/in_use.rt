@@ -19,7 +19,7 @@ ghost use Rattle.book_plan.specs.Found.{number_of};
 use crate::desk::{PlanDesk, PlanFrame, same_region};
 use crate::levels::PlanLevel;
 use crate::passes::{
-    first_under, frame_in, holder_of, job_in, or_found, pinner_of, put_pass, works,
+    first_under, frame_in, holder_of, job_in, pinner_of, put_pass, works,
 };
 use clip_regions::Region;
 use level_frame::window;
@@ -55,12 +55,12 @@ pub(crate) fn finest_used(k: u8, levels: u8, altitude: u32) -> u8
     ensures value { result ≡ finest_used k levels altitude }
     ensures below { result < levels }
 {
-    let mut first = None;
     for level in 0..levels {
-        let seen = is_seen(k, levels, altitude, level);
-        first = or_found(first, seen, level);
+        if is_seen(k, levels, altitude, level) {
+            return level;
+        }
     }
-    first.unwrap_or(0)
+    0
 }
 
 // The window of a level for a viewer at sample (`x`, `y`): there is room for the pieces of what lies in it.

@@ -1,24 +1,22 @@
--- One more level at each turn, the finest first.
-use Rattle.std.proofs.Common.{◌≡◌, ℕ, ◌<◌, filter, unwrap_or, ap, subst, sym, ◌∙◌, arith}
+-- One level fewer at each turn, the finest first.
+use Rattle.std.proofs.Common.{◌≡◌, ℕ, ◌+◌, ◌-◌, ◌<◌, filter, unwrap_or, Some, ap, refl, sym, ◌∙◌, arith}
 use Rattle.std.specs.List.{range_with_len}
-use Rattle.std.specs.Option.{IfSome}
 use Rattle.plan_model.specs.Strips.{first_of}
 use Rattle.plan_model.specs.States.{is_seen, finest_used}
-use Rattle.book_plan.proofs.Firsts.{first_more, found_below, unwrapped_below}
+use Rattle.book_plan.proofs.Firsts.{first_here, first_later}
 use Rattle.book_plan.proofs.in_use.finest_used.Goals as goal
 
 pub loop-level-preserved : goal.loop-level-preserved
-loop-level-preserved c = record {
-  value = c.or_found-first.ensures.value ∙ first_more (is_seen c.args.k c.args.levels c.args.altitude) c.loop-level.level c.loop-level.first c.is_seen-seen.result c.is_seen-seen.ensures.value c.loop-level.invariant.value;
-  there = subst (λ o. IfSome o (λ (n : ℕ). n < c.args.levels)) (sym c.or_found-first.ensures.value) (found_below c.args.levels c.loop-level.first c.is_seen-seen.result c.loop-level.level c.loop-level-test.true c.loop-level.invariant.there);
-}
+loop-level-preserved c =
+    first_later (is_seen c.args.k c.args.levels c.args.altitude) c.loop-level.level (c.args.levels - c.loop-level.level) (c.args.levels - (c.loop-level.level + 1)) (omega arith) (sym c.is_seen.ensures.value ∙ c.if-is_seen.false) ∙ c.loop-level.invariant
+
+pub returns-then-is_seen-clause-value : goal.returns-then-is_seen-clause-value
+unfolding finest_used
+returns-then-is_seen-clause-value c =
+    ap (λ o. unwrap_or o 0) (sym (first_here (is_seen c.args.k c.args.levels c.args.altitude) c.loop-level.level (c.args.levels - c.loop-level.level) (omega arith) (sym c.is_seen.ensures.value ∙ c.if-is_seen.true)) ∙ c.loop-level.invariant)
 
 pub returns-clause-value : goal.returns-clause-value
 unfolding finest_used
 returns-clause-value c =
-    let at_end : c.loop-level.level ≡ c.args.levels = omega arith in
-    c.unwrap_or.ensures ∙ ap (λ o. unwrap_or o 0) (c.loop-level.invariant.value ∙ ap (λ (n : ℕ). first_of (filter (is_seen c.args.k c.args.levels c.args.altitude) (range_with_len 0 n))) at_end)
-
-pub returns-clause-below : goal.returns-clause-below
-returns-clause-below c =
-    subst (λ (n : ℕ). n < c.args.levels) (sym c.unwrap_or.ensures) (unwrapped_below c.loop-level.first c.args.levels c.loop-level.invariant.there c.requires.levels.low)
+    let none : c.args.levels - c.loop-level.level ≡ 0 = omega arith in
+    ap (λ (n : ℕ). unwrap_or (first_of (filter (is_seen c.args.k c.args.levels c.args.altitude) (range_with_len c.loop-level.level n))) 0) (sym none) ∙ ap (λ o. unwrap_or o 0) c.loop-level.invariant
