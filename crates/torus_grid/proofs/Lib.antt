@@ -4,3 +4,4 @@ pub mod Written
 pub mod TileRows
 pub mod TilesAt
 pub mod RowHeights
+pub mod Patches

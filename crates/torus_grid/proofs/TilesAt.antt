@@ -13,7 +13,7 @@ use Rattle.torus_grid.specs.Shown.{shown}
 use Rattle.strip_planner.proofs.Rings.{by_order, less_is, less_of}
 
 -- ---- which tiles there are
-not_less : (a b : ℕ) → b ≤ a → nat_lt a b ≡ false
+pub not_less : (a b : ℕ) → b ≤ a → nat_lt a b ≡ false
 not_less a b h = grind (arith, nat_tests)
 
 pub column_of : (k : ℕ) (t : TileId) → has_tile k t ≡ true → t.tx < tiles_per_side k

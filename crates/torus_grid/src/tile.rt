@@ -6,6 +6,7 @@ ghost use Rattle.std.specs.Int.{int_gap};
 ghost use Rattle.clip_regions.specs.FloorDivision.{floor_rem};
 ghost use Rattle.clip_regions.specs.Regions.{area};
 ghost use Rattle.torus_grid.specs.Places.{tile_height, IsInOneBlock, IsWritten};
+ghost use Rattle.torus_grid.specs.Patches.{beside, among_four};
 
 use clip_regions::Region;
 use plan_laws::inside_is_held;
@@ -27,7 +28,7 @@ impl Model for Tile {
 
 // The place of a cell's column or row in its tile.
 #[tactic(auto, unfolding(clip_regions::specs::FloorDivision::floor_rem))]
-fn place_of(cell: i32) -> usize
+pub(crate) fn place_of(cell: i32) -> usize
     ensures value { result ≡ floor_rem cell 8 }
     ensures inside { result < 8 }
 {
@@ -82,6 +83,68 @@ fn write_cells(tile: &mut [i16], cells: Region, heights: &[i16])
     let first = index_of(cells.x0, cells.y0);
     for row in 0..height {
         write_row(tile, first + 8 * row, heights, width * row, width);
+    }
+}
+
+// A row of eight heights of a tile, and then that of the next tile to the east.
+fn two_rows(west: &[i16], east: &[i16], y: usize) -> [i16; 16]
+    requires west { length west.now ≡ 64 }
+    requires east { length east.now ≡ 64 }
+    requires row { y < 8 }
+    ensures many { length result ≡ 16 }
+    ensures west { (n : ℕ) → n < 8 →
+        slice_index_or result n (pos 0) ≡ slice_index_or west.now (8 * y + n) (pos 0) }
+    ensures east { (n : ℕ) → n < 8 →
+        slice_index_or result (8 + n) (pos 0) ≡ slice_index_or east.now (8 * y + n) (pos 0) }
+{
+    let mut row = [0i16; 16];
+    write_row(&mut row, 0, west, 8 * y, 8);
+    write_row(&mut row, 8, east, 8 * y, 8);
+    row
+}
+
+// Seven of sixteen heights, from one of the first eight on.
+fn seven_from(row: &[i16], x: usize) -> [i16; 7]
+    requires many { length row.now ≡ 16 }
+    requires column { x < 8 }
+    ensures { (a : ℕ) → a < 7 → slice_index_or result a (pos 0) ≡ slice_index_or row.now (x + a) (pos 0) }
+{
+    let mut seven = [0i16; 7];
+    write_row(&mut seven, 0, row, x, 7);
+    seven
+}
+
+// Seven heights of a row of a tile and the next tile to the east, from column x of the first on.
+fn seven_of_two(west: &[i16], east: &[i16], x: usize, y: usize) -> [i16; 7]
+    requires west { length west.now ≡ 64 }
+    requires east { length east.now ≡ 64 }
+    requires column { x < 8 }
+    requires row { y < 8 }
+    ensures { (a : ℕ) → a < 7 → slice_index_or result a (pos 0) ≡ beside west.now east.now (x + a) y }
+{
+    let row = two_rows(west, east, y);
+    seven_from(&row, x)
+}
+
+// Seven heights of a row of two pairs of tiles, the second to the south of the first, from column x and row y of
+// the first tile on.
+pub(crate) fn seven_of_four(
+    nw: &Tile,
+    ne: &Tile,
+    sw: &Tile,
+    se: &Tile,
+    x: usize,
+    y: usize,
+) -> [i16; 7]
+    requires column { x < 8 }
+    requires row { y < 16 }
+    ensures { (a : ℕ) → a < 7 →
+        slice_index_or result a (pos 0) ≡ among_four nw.now ne.now sw.now se.now (x + a) y }
+{
+    if y < 8 {
+        seven_of_two(&nw.heights, &ne.heights, x, y)
+    } else {
+        seven_of_two(&sw.heights, &se.heights, x, y - 8)
     }
 }
 

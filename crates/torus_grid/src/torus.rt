@@ -1,14 +1,16 @@
 //! The torus of a level.
 
-ghost use Rattle.std.specs.Prelude.{◌≡◌, ◌+◌, ◌-◌, ◌*◌, ◌<◌, ◌≤◌, pos, ◌+ℤ◌, map, replicate, Some, None, IsTrue, IfOk, length};
+ghost use Rattle.std.specs.Prelude.{◌≡◌, ℕ, ◌+◌, ◌-◌, ◌*◌, ◌<◌, ◌≤◌, pos, ◌+ℤ◌, [], map, replicate, Some, None};
+ghost use Rattle.std.specs.Prelude.{IsTrue, IfOk, length, slice_index_or};
 ghost use Rattle.std.specs.List.{range_with_len};
 ghost use Rattle.clip_regions.specs.FloorDivision.{floor_div, floor_rem};
 ghost use Rattle.plan_model.specs.Limits.{IsSize};
 ghost use Rattle.plan_model.specs.Blocks.{tile_of_cell, tiles_per_side};
 ghost use Rattle.torus_grid.specs.Grids.{tile_at, is_home, has_tile, tile_number, height_at, new_grid, SameBut};
 ghost use Rattle.torus_grid.specs.Shown.{shown};
+ghost use Rattle.torus_grid.specs.Patches.{among_four, AreSevenHome, HasSixMore};
 
-use crate::tile::Tile;
+use crate::tile::{Tile, place_of, seven_of_four};
 use plan_model::blocks_have_one_tile;
 use std::alloc::{AllocError, Global};
 use std::marker::Model;
@@ -91,6 +93,26 @@ fn tile_of_cell(k: u8, i: i32, j: i32) -> TileId
     tile_of(k, eighth(i), eighth(j))
 }
 
+// Seven by seven heights of two pairs of tiles, the second to the south of the first, row by row from column x and
+// row y of the first tile on.
+fn patch_of_four(nw: &Tile, ne: &Tile, sw: &Tile, se: &Tile, x: usize, y: usize) -> [[i16; 7]; 7]
+    requires column { x < 8 }
+    requires row { y < 8 }
+    ensures { (a b : ℕ) → a < 7 → b < 7 →
+        slice_index_or (slice_index_or result b []) a (pos 0)
+        ≡ among_four nw.now ne.now sw.now se.now (x + a) (y + b) }
+{
+    [
+        seven_of_four(nw, ne, sw, se, x, y),
+        seven_of_four(nw, ne, sw, se, x, y + 1),
+        seven_of_four(nw, ne, sw, se, x, y + 2),
+        seven_of_four(nw, ne, sw, se, x, y + 3),
+        seven_of_four(nw, ne, sw, se, x, y + 4),
+        seven_of_four(nw, ne, sw, se, x, y + 5),
+        seven_of_four(nw, ne, sw, se, x, y + 6),
+    ]
+}
+
 impl Torus {
     /// The torus of K, from 4 to 8, with all tiles at home and all heights 0. It fails where memory runs out.
     pub fn new(alloc: Global, k: u8) -> Result<Torus, NoMemory>
@@ -138,6 +160,32 @@ impl Torus {
     {
         blocks_have_one_tile();
         self.tile(tile_of_cell(self.k, i, j)).row(i, j)
+    }
+
+    // The tile of the cell in column `i` and row `j`, which is at home.
+    fn tile_with(&self, i: i32, j: i32) -> &Tile
+        requires { IsTrue (is_home self.now (tile_of_cell self.now.k i j)) }
+        ensures tile { tile_at self.now (tile_of_cell self.now.k i j) ≡ Some result.now }
+        ensures size { IsSize self.now.k }
+    {
+        self.tile(tile_of_cell(self.k, i, j))
+    }
+
+    /// The heights of seven by seven cells from column `i0` and row `j0` on, in metres: seven rows of seven. Their
+    /// tiles are at home.
+    pub fn patch(&self, i0: i32, j0: i32) -> [[i16; 7]; 7]
+        requires column { HasSixMore i0 }
+        requires row { HasSixMore j0 }
+        requires home { AreSevenHome self.now i0 j0 }
+        ensures { (a b : ℕ) → a < 7 → b < 7 →
+            slice_index_or (slice_index_or result b []) a (pos 0) ≡ height_at self.now (i0 +ℤ pos a) (j0 +ℤ pos b) }
+    {
+        blocks_have_one_tile();
+        let nw = self.tile_with(i0, j0);
+        let ne = self.tile_with(i0 + 6, j0);
+        let sw = self.tile_with(i0, j0 + 6);
+        let se = self.tile_with(i0 + 6, j0 + 6);
+        patch_of_four(nw, ne, sw, se, place_of(i0), place_of(j0))
     }
 
     /// Takes a tile out, with its heights. It is at home.

@@ -1,5 +1,5 @@
 -- One level fewer at each turn, the finest first.
-use Rattle.std.proofs.Common.{◌≡◌, ℕ, ◌+◌, ◌-◌, ◌<◌, filter, unwrap_or, Some, ap, refl, sym, ◌∙◌, arith}
+use Rattle.std.proofs.Common.{◌≡◌, ℕ, ◌+◌, ◌-◌, filter, unwrap_or, ap, sym, ◌∙◌, arith}
 use Rattle.std.specs.List.{range_with_len}
 use Rattle.plan_model.specs.Strips.{first_of}
 use Rattle.plan_model.specs.States.{is_seen, finest_used}
