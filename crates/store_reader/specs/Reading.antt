@@ -133,6 +133,9 @@ pub record IsBand (reading : Reading) (band : Band) (cells : ℕ) : Type 0 where
   pub begun : band.start ≤ length reading.bytes.now
   pub room : cells_above reading band.from + cells ≡ cells_above reading band.to
 
+abbrev pub MayRead : Reading → Band → ℕ → Type 0
+MayRead reading band cells = IsReading reading.header reading.level reading.source × IsBand reading band cells
+
 -- the band is the whole level, whose first block's length stands at an offset
 pub record IsWhole (reading : Reading) (band : Band) (start : ℕ) : Type 0 where
   pub all : IsBand reading band (cell_count reading)
@@ -168,7 +171,7 @@ abbrev pub EndsBand : Reading → Band → Result ℕ StoreFault → List ℤ �
 EndsBand reading band (Ok at) table = ReadsBand reading band at table
 EndsBand reading band (Err fault) table = FailsBand reading band fault
 
--- two bands are a band cut in two, where the cells of the first are so many
+-- two bands are a band cut in two, and the second begins behind the blocks of the first
 pub record AreHalves (reading : Reading) (band front back : Band) : Type 0 where
   pub begins : front.from ≡ band.from
   pub meets : back.from ≡ front.to

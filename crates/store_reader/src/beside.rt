@@ -1,9 +1,9 @@
 //! The blocks of a level, read side by side.
 
-ghost use Rattle.std.specs.Prelude.{◌≡◌, ◌⊎◌, ◌+◌, ◌<◌, ◌≤◌, length, IfOk, IfErr, IfSome};
+ghost use Rattle.std.specs.Prelude.{◌≡◌, ◌+◌, ◌<◌, ◌≤◌, length, IfSome};
 ghost use Rattle.std.specs.Thread.{IsSync};
 ghost use Rattle.store_model.specs.Sizes.{cells_on, blocks_on};
-ghost use Rattle.store_reader.specs.Reading.{IsReading, IsBand, AreHalves, behind, ReadsBand, FailsBand, EndsBand};
+ghost use Rattle.store_reader.specs.Reading.{IsReading, IsBand, MayRead, AreHalves, behind, EndsBand};
 
 use crate::blocks::content_at;
 use crate::level::{Band, BlockReader, Reading, read_band};
@@ -100,11 +100,11 @@ fn read_parts<R: Threads + Sync>(
     let (first, second) = join_mut(
         rt,
         &mut || -> Result<usize, StoreFault>
-            requires { IsSync R.row × (0 < depth) × IsReading reading.header reading.level reading.source × IsBand reading front (length north.now) }
+            requires { IsSync R.row × (0 < depth) × MayRead reading front (length north.now) }
             ensures { EndsBand reading.entry front result north.exit.now }
         { read_parts(rt, depth - 1, reading, front, north) },
         &mut || -> Result<usize, StoreFault>
-            requires { IsSync R.row × (0 < depth) × IsReading reading.header reading.level reading.source × IsBand reading back (length south.now) }
+            requires { IsSync R.row × (0 < depth) × MayRead reading back (length south.now) }
             ensures { EndsBand reading.entry back result south.exit.now }
         { read_parts(rt, depth - 1, reading, back, south) },
     );

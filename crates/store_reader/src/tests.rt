@@ -231,8 +231,8 @@ const SIDE: usize = 400;
 
 // The height in a column and a row of it.
 fn height_at(x: usize, y: usize) -> i16
-    requires { x < 400 }
-    requires { y < 400 }
+    requires column { x < 400 }
+    requires row { y < 400 }
 {
     ((x * 7 + y * 13) % 5000) as i16 - 2000
 }
