@@ -16,3 +16,4 @@ pub mod Claimable
 pub mod Plans
 pub mod Kept
 pub mod Began
+pub mod Ripe

@@ -5,6 +5,7 @@ ghost use Rattle.plan_model.specs.Strips.{first_of};
 ghost use Rattle.plan_model.specs.States.{is_whole, used_from_coarsest};
 ghost use Rattle.plan_model.specs.Claims.{held_answer, busy_answer, needed_answer, blocked, unfinished_pieces};
 ghost use Rattle.plan_model.specs.Claims.{ripe_or_blocked, no_offer};
+ghost use Rattle.plan_model.specs.Rounds.{is_ripe};
 ghost use Rattle.book_plan.specs.Slots.{open_pieces, empty_shelf};
 ghost use Rattle.book_plan.specs.Desks.{state_of, IsStanding};
 
@@ -95,6 +96,19 @@ impl PlanDesk {
     {
         pieces_have_different_blocks();
         first_open_of(self.levels.as_slice(), level)
+    }
+
+    // Whether all pieces of a level's current strip are finished.
+    #[tactic(auto, unfolding(plan_model::specs::Rounds::is_ripe))]
+    pub(crate) fn is_ripe(&self, level: u8) -> bool
+        requires standing { IsStanding self.now }
+        requires level { level < length self.now.levels }
+        ensures { result ≡ is_ripe (state_of self.now) level }
+    {
+        match self.first_unfinished(level) {
+            Some(_) => false,
+            None => self.strip_at(level).is_some(),
+        }
     }
 
     // What is answered where nothing can be claimed and this is the coarsest level that isn't whole.

@@ -8,6 +8,7 @@ ghost use Rattle.clip_regions.specs.Regions.{empty_region};
 ghost use Rattle.plan_model.specs.Limits.{IsSize, IsLevelCount, IsViewer};
 ghost use Rattle.plan_model.specs.States.{start_state, finest_at, filled_at, pass_at, job_of, frame_of};
 ghost use Rattle.plan_model.specs.Claims.{strip_at, unfinished_pieces};
+ghost use Rattle.plan_model.specs.Rounds.{is_ripe};
 ghost use Rattle.plan_model.specs.Sound.{IsReady, IsTaken};
 ghost use Rattle.plan_model.specs.declared.events.Event.TheVariants.{Move, Claim, Finish, Publish, Begin, End};
 ghost use Rattle.plan_model.specs.declared.events.Work.TheVariants.{Free};
@@ -301,6 +302,14 @@ impl BookPlan {
             Some(_) => Some(self.desk.unfinished_count(level)),
             None => None,
         }
+    }
+
+    /// Whether all pieces of a level's current strip are finished, so that it can be published. No piece is counted.
+    pub fn is_ripe(&self, level: u8) -> bool
+        requires { level < length self.now.state.levels }
+        ensures { result ≡ is_ripe self.now.state level }
+    {
+        self.desk.is_ripe(level)
     }
 
     /// How many moves there were.

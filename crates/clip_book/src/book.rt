@@ -7,6 +7,7 @@ ghost use Rattle.plan_model.specs.Limits.{IsSize, IsViewer};
 ghost use Rattle.plan_model.specs.States.{finest_at, filled_at, pass_at, job_of, frame_of};
 ghost use Rattle.plan_model.specs.declared.events.Event.TheVariants.{Move, Claim, Finish, Publish, Begin, End};
 ghost use Rattle.plan_model.specs.declared.events.Answer.TheVariants.{Moved};
+ghost use Rattle.plan_model.specs.Rounds.{is_ripe};
 ghost use Rattle.book_plan.specs.Books.{unfinished_on};
 ghost use Rattle.book_plan.specs.Notes.{open_frame};
 ghost use Rattle.clip_book.specs.Answers.{said_of_claim, said_of_given, said_of_published};
@@ -243,6 +244,14 @@ impl Book {
         ensures { result ≡ unfinished_on self.now.plan.state level }
     {
         self.plan.unfinished(level)
+    }
+
+    /// Whether all pieces of a level's current strip are finished, so that it can be published. No piece is counted.
+    pub fn is_ripe(&self, level: u8) -> bool
+        requires { level < length self.now.plan.state.levels }
+        ensures { result ≡ is_ripe self.now.plan.state level }
+    {
+        self.plan.is_ripe(level)
     }
 
     /// How many moves there were.

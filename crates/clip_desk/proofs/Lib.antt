@@ -1,5 +1,4 @@
 pub mod Jobs
 pub mod Lists
-pub mod Ripeness
 pub mod Stays
 pub mod Texts

@@ -8,11 +8,9 @@ mod desk;
 mod drawn;
 mod lines;
 mod means;
-mod ripe;
 
 pub use decode_workers::Filler;
 pub use desk::{Desk, NoMemory};
 pub use drawn::{Drawn, draw_alone, draw_seen, draw_whole, print_whole, put_frame, put_numbered};
 pub use lines::{event_line, unseen_line, view_line};
 pub use means::Means;
-pub use ripe::is_ripe;

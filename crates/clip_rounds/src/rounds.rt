@@ -17,7 +17,7 @@ ghost use Rattle.clip_rounds.specs.Rounds.{AreClaims, AreHomeward, HaveNoJobs, I
 use crate::events::{claim, end, give_back, publish};
 use crate::flight::Flight;
 use crate::work::{Worked, work};
-use clip_desk::{Means, is_ripe};
+use clip_desk::Means;
 use decode_rounds::{Done, Task};
 use decode_workers::Filler;
 use obj_frames::Mesh;
@@ -141,7 +141,7 @@ fn publish_if_ripe<K: Sink>(
     ensures stays { Stays flight.old.book flight.new.book }
 {
     steps_go_on();
-    if is_ripe(&flight.book, level) {
+    if flight.book.is_ripe(level) {
         publish(alloc, flight, level, out)
     } else {
         Ok(())

@@ -9,7 +9,7 @@ ghost use Rattle.plan_flights.specs.Flights.{IsAtRest};
 ghost use Rattle.clip_desk.specs.Desks.{Stays};
 ghost use Rattle.clip_runs.specs.Settles.{IsAlike, published_if_ripe};
 
-use clip_desk::{Desk, is_ripe};
+use clip_desk::Desk;
 use decode_workers::Filler;
 use plan_flights::laws_below;
 use plan_histories::{others_keep_parts, passes_are_kept};
@@ -26,7 +26,7 @@ fn publish_if_ripe<F: Filler>(filler: &F, desk: &mut Desk, level: u8)
     ensures stays { Stays desk.old desk.new }
 {
     steps_go_on();
-    if is_ripe(desk.book(), level) {
+    if desk.book().is_ripe(level) {
         let _ = desk.take(filler, 0, Event::Publish { level });
     }
 }
