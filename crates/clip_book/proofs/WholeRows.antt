@@ -1,5 +1,5 @@
 -- Seven cells of a row, read from one tile and then from the next one.
-use Rattle.std.proofs.Common.{◌≡◌, ℕ, ℤ, pos, ◌+◌, ◌-◌, ◌<◌, ◌≤◌, min, ◌⊎◌, ◌+ℤ◌, ◌*ℤ◌, ◌≤ℤ◌, Bool, true, List, ◌++◌, length, map, get_or, ap, sym, ◌∙◌, inl, inr, arith}
+use Rattle.std.proofs.Common.{◌≡◌, ℕ, ℤ, pos, ◌+◌, ◌-◌, ◌<◌, ◌≤◌, min, ◌⊎◌, ◌+ℤ◌, ◌*ℤ◌, ◌≤ℤ◌, Bool, true, List, ◌++◌, length, map, get_or, ap, sym, ◌∙◌, subst, inl, inr, arith}
 use Rattle.std.specs.List.{range_with_len}
 use Rattle.std.specs.Int.{w16, w32}
 use Rattle.std.proofs.lemmas.Bool.{cases_order}
@@ -15,7 +15,9 @@ use Rattle.clip_regions.specs.Regions.{contains}
 use Rattle.clip_regions.proofs.Cells.{Lies, lies, lying}
 use Rattle.torus_grid.proofs.Numbers.{eight_below, eight_is, rem_is}
 use Rattle.four_point.proofs.AroundLemmas.{read_after}
-use Rattle.clip_book.specs.Tiles.{IsCorner, HoldsRow}
+use Rattle.torus_grid.specs.Grids.{Grid}
+use Rattle.torus_grid.specs.Patches.{AreSevenHome, HasSixMore}
+use Rattle.clip_book.specs.Tiles.{IsCorner, AreHome, HoldsRow, HoldsSquare}
 use Rattle.clip_book.proofs.SeenRows.{place_fits, place_itself}
 
 -- n lies before m, or not
@@ -108,3 +110,31 @@ row_read r i j x y corner e e' t t' =
     let itself : to_z w32 (of_z w32 i) ≡ i = to_z-of_z w32 i (place_itself i corner) in
     let sixth : to_z w32 (of_z w32 (to_z w32 (of_z w32 i) +ℤ pos 6)) ≡ to_z w32 (of_z w32 i) +ℤ pos 6 = read_after i 6 (place_itself i corner) (place_fits i 6 (omega arith) corner) ∙ ap (λ (z : ℤ). z +ℤ pos 6) (sym itself) in
     row_held r (to_z w32 (of_z w32 i)) (to_z w32 (of_z w32 j)) (sym e ∙ t) (ap (λ (z : ℤ). contains r z (to_z w32 (of_z w32 j))) (sym sixth) ∙ sym e' ∙ t')
+
+-- ---- seven by seven cells
+-- those that have their first and their last cell in a region lie there
+square_held : (r : Region) (i j : ℤ) → contains r i j ≡ true → contains r (i +ℤ pos 6) (j +ℤ pos 6) ≡ true → HoldsSquare r i j
+square_held r i j first last = λ a b l m.
+    let from : Lies r i j = lies r i j first in
+    let to : Lies r (i +ℤ pos 6) (j +ℤ pos 6) = lies r (i +ℤ pos 6) (j +ℤ pos 6) last in
+    let west : r.x0 ≤ℤ i = from.west in
+    let east : (i +ℤ pos 6) ≤ℤ r.x1 = to.east in
+    let north : r.y0 ≤ℤ j = from.north in
+    let south : (j +ℤ pos 6) ≤ℤ r.y1 = to.south in
+    lying r (i +ℤ pos a) (j +ℤ pos b) (record { west = omega (arith, ints); east = omega (arith, ints); north = omega (arith, ints); south = omega (arith, ints) })
+
+sixth : (z : ℤ) → IsCorner z → to_z w32 (of_z w32 (to_z w32 (of_z w32 z) +ℤ pos 6)) ≡ z +ℤ pos 6
+sixth z corner = read_after z 6 (place_itself z corner) (place_fits z 6 (omega arith) corner)
+
+pub square_read : (r : Region) (i j : ℤ) (x y : Bool) → IsCorner i → IsCorner j → x ≡ contains r (to_z w32 (of_z w32 i)) (to_z w32 (of_z w32 j)) → y ≡ contains r (to_z w32 (of_z w32 (to_z w32 (of_z w32 i) +ℤ pos 6))) (to_z w32 (of_z w32 (to_z w32 (of_z w32 j) +ℤ pos 6))) → x ≡ true → y ≡ true → HoldsSquare r i j
+square_read r i j x y column row e e' t t' =
+    square_held r i j (ap₂ (λ (a b : ℤ). contains r a b) (sym (to_z-of_z w32 i (place_itself i column))) (sym (to_z-of_z w32 j (place_itself j row))) ∙ sym e ∙ t) (ap₂ (λ (a b : ℤ). contains r a b) (sym (sixth i column)) (sym (sixth j row)) ∙ sym e' ∙ t')
+
+pub six_more : (z : ℤ) → IsCorner z → HasSixMore (to_z w32 (of_z w32 z))
+six_more z corner =
+    let h = corner.high in
+    let near : HasSixMore z = grind (arith, ints) in
+    subst HasSixMore (sym (to_z-of_z w32 z (place_itself z corner))) near
+
+pub seven_home : (g : Grid) (r : Region) (i j : ℤ) → AreHome g r → HoldsSquare r i j → AreSevenHome g i j
+seven_home g r i j home held = λ a b l m. home (i +ℤ pos a) (j +ℤ pos b) (held a b l m)

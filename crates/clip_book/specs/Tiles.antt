@@ -73,3 +73,7 @@ pub record IsCorner (z : ℤ) : Type 0 where
 -- the seven cells of a row from column i0 on lie in the region
 abbrev pub HoldsRow : Region → ℤ → ℤ → Type 0
 HoldsRow region i0 j = (a : ℕ) → a < 7 → IsTrue (contains region (i0 +ℤ pos a) j)
+
+-- and so do seven by seven cells from column i0 and row j0 on
+abbrev pub HoldsSquare : Region → ℤ → ℤ → Type 0
+HoldsSquare region i0 j0 = (a b : ℕ) → a < 7 → b < 7 → IsTrue (contains region (i0 +ℤ pos a) (j0 +ℤ pos b))

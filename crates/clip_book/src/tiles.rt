@@ -186,6 +186,40 @@ fn seen_row(torus: &Torus, region: Region, i0: i32, j: i32) -> [i16; 7]
     }
 }
 
+// The heights of seven by seven cells from column `i0` and row `j0` on, a row at a time.
+fn seen_rows(torus: &Torus, region: Region, i0: i32, j0: i32) -> [[i16; 7]; 7]
+    requires home { AreHome torus.now region }
+    requires column { IsCorner i0 }
+    requires row { IsCorner j0 }
+    ensures { (a b : ℕ) → a < 7 → b < 7 →
+        slice_index_or (slice_index_or result b []) a (pos 0) ≡ seen torus.now region (i0 +ℤ pos a) (j0 +ℤ pos b) }
+{
+    [
+        seen_row(torus, region, i0, j0),
+        seen_row(torus, region, i0, j0 + 1),
+        seen_row(torus, region, i0, j0 + 2),
+        seen_row(torus, region, i0, j0 + 3),
+        seen_row(torus, region, i0, j0 + 4),
+        seen_row(torus, region, i0, j0 + 5),
+        seen_row(torus, region, i0, j0 + 6),
+    ]
+}
+
+// The heights of seven by seven cells from column `i0` and row `j0` on: all at once where they all lie in the region.
+fn seen_square(torus: &Torus, region: Region, i0: i32, j0: i32) -> [[i16; 7]; 7]
+    requires home { AreHome torus.now region }
+    requires column { IsCorner i0 }
+    requires row { IsCorner j0 }
+    ensures { (a b : ℕ) → a < 7 → b < 7 →
+        slice_index_or (slice_index_or result b []) a (pos 0) ≡ seen torus.now region (i0 +ℤ pos a) (j0 +ℤ pos b) }
+{
+    if region.contains(i0, j0) && region.contains(i0 + 6, j0 + 6) {
+        torus.patch(i0, j0)
+    } else {
+        seen_rows(torus, region, i0, j0)
+    }
+}
+
 // The patch of seven by seven cells from column `i0` and row `j0` on.
 fn seen_patch(torus: &Torus, region: Region, i0: i32, j0: i32) -> Patch
     requires home { AreHome torus.now region }
@@ -196,19 +230,8 @@ fn seen_patch(torus: &Torus, region: Region, i0: i32, j0: i32) -> Patch
     ensures heights { (a b : ℕ) → a < 7 → b < 7 →
         slice_index_or (slice_index_or result.h b []) a (pos 0) ≡ seen torus.now region (i0 +ℤ pos a) (j0 +ℤ pos b) }
 {
-    Patch {
-        i0,
-        j0,
-        h: [
-            seen_row(torus, region, i0, j0),
-            seen_row(torus, region, i0, j0 + 1),
-            seen_row(torus, region, i0, j0 + 2),
-            seen_row(torus, region, i0, j0 + 3),
-            seen_row(torus, region, i0, j0 + 4),
-            seen_row(torus, region, i0, j0 + 5),
-            seen_row(torus, region, i0, j0 + 6),
-        ],
-    }
+    let h = seen_square(torus, region, i0, j0);
+    Patch { i0, j0, h }
 }
 
 impl Tiles {
