@@ -1,5 +1,6 @@
 pub mod Ranges
 pub mod Firsts
+pub mod Freed
 pub mod Lists
 pub mod Blocks
 pub mod Marks

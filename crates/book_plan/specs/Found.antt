@@ -1,5 +1,5 @@
 -- The first of two that may be there, and the earlier of two tiles.
-use Rattle.std.specs.Prelude.{ℕ, Bool, true, false, ◌&&◌, ◌||◌, ◌==◌, nat_lt, List, [], ◌∷◌, map, fold, slice_index_or, unwrap_or, Option, Some, None, if◌then◌else◌}
+use Rattle.std.specs.Prelude.{◌≡◌, ◌≤◌, ℕ, Bool, true, false, ◌&&◌, ◌||◌, ◌==◌, nat_lt, List, [], ◌∷◌, map, fold, slice_index_or, unwrap_or, Option, Some, None, if◌then◌else◌}
 use Rattle.clip_regions.specs.declared.region.Region.{Region}
 use Rattle.clip_regions.specs.Regions.{empty_region}
 use Rattle.plan_model.specs.Blocks.{tile_of}
@@ -10,12 +10,17 @@ use Rattle.plan_model.specs.declared.events.Answer.{Answer}
 use Rattle.plan_model.specs.declared.events.Answer.TheVariants.{Idle}
 use Rattle.plan_model.specs.declared.tiles.TileId.{TileId}
 use Rattle.plan_model.specs.declared.events.JobNote.{JobNote}
+use Rattle.plan_model.specs.declared.events.Work.TheVariants.{Free}
 
 -- what was found first: the earlier one, where there is one, and else the later one, where it passes
 abbrev pub or_found : {X : Type 0} → Option X → Bool → X → Option X
 or_found (Some y) b x = Some y
 or_found None true x = Some x
 or_found None false x = None
+
+-- all passes from number n on are free
+abbrev pub AreFreeFrom : List Pass → ℕ → Type 0
+AreFreeFrom passes n = (p : ℕ) → n ≤ p → slice_index_or passes p Free ≡ Free
 
 -- a number that may be there, as a list
 abbrev pub listed : Option ℕ → List ℕ

@@ -6,6 +6,7 @@ ghost use Rattle.plan_model.specs.States.{job_of, frame_of, has_work, same_regio
 ghost use Rattle.plan_model.specs.declared.events.Work.TheVariants.{Free};
 
 use crate::levels::PlanLevel;
+use crate::passes::Passes;
 use active_region::Actives;
 use clip_regions::Region;
 use plan_model::{JobNote, Work};
@@ -38,7 +39,7 @@ pub(crate) struct PlanDesk {
     pub(crate) altitude: u32,
     pub(crate) levels: Vec<PlanLevel>,
     pub(crate) begun: u64,
-    pub(crate) passes: Vec<Work<PlanFrame>>,
+    pub(crate) passes: Passes,
 }
 
 impl Model for PlanDesk {
@@ -53,7 +54,7 @@ impl Model for PlanDesk {
       altitude = a.altitude;
       levels = a.levels.items;
       begun = a.begun;
-      passes = a.passes.items;
+      passes = a.passes;
     } };
 }
 

@@ -18,9 +18,7 @@ ghost use Rattle.book_plan.specs.Found.{number_of};
 
 use crate::desk::{PlanDesk, PlanFrame, same_region};
 use crate::levels::PlanLevel;
-use crate::passes::{
-    first_under, frame_in, holder_of, job_in, pinner_of, put_pass, works,
-};
+use crate::passes::{first_under, frame_in, holder_of, job_in, pinner_of, works};
 use clip_regions::Region;
 use level_frame::window;
 use plan_laws::{parts_are_filled_in, strips_lie_in_windows, windows_have_few_pieces};
@@ -218,7 +216,7 @@ impl PlanDesk {
         requires { p < length self.old.passes }
         ensures { self.new ≡ record self.old { passes = slice_set self.old.passes p new } }
     {
-        put_pass(self.passes.as_mut_slice(), p, new);
+        self.passes.set(p, new);
     }
 
     // The pass that holds the tile of a level.
@@ -227,7 +225,7 @@ impl PlanDesk {
         requires { IsStanding self.now }
         ensures value { result ≡ holder (state_of self.now) level t }
     {
-        holder_of(self.k, self.passes.as_slice(), level, t)
+        holder_of(self.k, self.passes.as_slice(), self.passes.used(), level, t)
     }
 
     // The least number of a frame that pins the tile of a level.
@@ -236,7 +234,7 @@ impl PlanDesk {
         requires { IsStanding self.now }
         ensures value { result ≡ pinner (state_of self.now) level t }
     {
-        pinner_of(self.k, self.passes.as_slice(), level, t)
+        pinner_of(self.k, self.passes.as_slice(), self.passes.used(), level, t)
     }
 
     // The first held tile of a level that a region meets.
@@ -244,6 +242,12 @@ impl PlanDesk {
         requires { IsStanding self.now }
         ensures value { result ≡ first_of (held_tiles (state_of self.now) level region) }
     {
-        first_under(self.k, self.passes.as_slice(), level, region)
+        first_under(
+            self.k,
+            self.passes.as_slice(),
+            self.passes.used(),
+            level,
+            region,
+        )
     }
 }

@@ -1,7 +1,7 @@
 //! What the passes of a book have: which torus tiles they hold and pin.
 
-ghost use Rattle.std.specs.Prelude.{◌≡◌, ◌<◌, ◌≤◌, ◌&&◌, ◌==◌, None, filter, fold, flat_map, length};
-ghost use Rattle.std.specs.Prelude.{slice_index_or, slice_set, if◌then◌else◌};
+ghost use Rattle.std.specs.Prelude.{◌≡◌, ◌<◌, ◌≤◌, ◌&&◌, ◌==◌, None, filter, fold, flat_map, length, replicate};
+ghost use Rattle.std.specs.Prelude.{slice_index_or, slice_set, if◌then◌else◌, IfOk};
 ghost use Rattle.std.specs.List.{range_with_len};
 ghost use Rattle.clip_regions.specs.Regions.{empty_region};
 ghost use Rattle.plan_model.specs.Limits.{IsSize};
@@ -11,12 +11,46 @@ ghost use Rattle.plan_model.specs.States.{job_of, frame_of, has_work};
 ghost use Rattle.plan_model.specs.Tiles.{job_holds, pins_of, lesser, meets_tile};
 ghost use Rattle.plan_model.specs.declared.events.Work.TheVariants.{Free};
 ghost use Rattle.book_plan.specs.Found.{or_found, listed, lesser_of, number_of, comes_before, earlier, job_under};
-ghost use Rattle.book_plan.specs.Found.{first_under};
+ghost use Rattle.book_plan.specs.Found.{first_under, AreFreeFrom};
 
 use crate::desk::{PlanFrame, has_work, job_of};
 use clip_regions::Region;
 use plan_model::{JobNote, TileId, Work};
+use std::alloc::{AllocError, Global};
+use std::marker::Model;
 use strip_planner::{meets_tile, tile_of};
+
+// What each pass of a book has.
+#[derive(Drop)]
+pub(crate) struct Passes {
+    all: Vec<Work<PlanFrame>>,
+    // All passes from this one on are free.
+    used: usize,
+}
+
+impl Model for Passes {
+    ghost use Rattle.std.specs.Prelude.{◌≤◌, List, length};
+    ghost use Rattle.plan_model.specs.States.{Pass};
+    ghost use Rattle.book_plan.specs.Found.{AreFreeFrom};
+
+    ghost Value = { List Pass };
+
+    ghost view = { λ s. s.all.items };
+
+    ghost invariant = { λ s. (s.used ≤ length s.all.items) × AreFreeFrom s.all.items s.used };
+}
+
+// Free passes.
+#[tactic(auto, using(std::proofs::lemmas::List::replicate_more))]
+fn free_passes(alloc: Global, count: u8) -> Result<Vec<Work<PlanFrame>>, AllocError>
+    ensures value { IfOk result (λ v. v.items ≡ replicate count Free) }
+{
+    let mut out = Vec::with_capacity(alloc, count as usize)?;
+    'made: for _ in 0..count {
+        out.push(Work::Free)?;
+    }
+    Ok(out)
+}
 
 // The job of one of some passes.
 pub(crate) fn job_in(passes: &[Work<PlanFrame>], p: u8) -> Option<JobNote>
@@ -53,11 +87,45 @@ pub(crate) fn works(passes: &[Work<PlanFrame>], p: u8) -> bool
 }
 
 // Puts another pass in the place of one.
-pub(crate) fn put_pass(passes: &mut [Work<PlanFrame>], p: u8, new: Work<PlanFrame>)
+fn put_pass(passes: &mut [Work<PlanFrame>], p: u8, new: Work<PlanFrame>)
     requires { p < length passes.old }
     ensures value { passes.new ≡ slice_set passes.old p new }
 {
     passes[p as usize] = new;
+}
+
+impl Passes {
+    // So many free passes.
+    pub(crate) fn start(alloc: Global, count: u8) -> Result<Passes, AllocError>
+        ensures value { IfOk result (λ passes. passes ≡ replicate count Free) }
+    {
+        let all = free_passes(alloc, count)?;
+        Ok(Passes { all, used: 0 })
+    }
+
+    // What each of them has.
+    pub(crate) fn as_slice(&self) -> &[Work<PlanFrame>]
+        ensures value { result.now ≡ self.now }
+    {
+        self.all.as_slice()
+    }
+
+    // A pass from which on all are free.
+    pub(crate) fn used(&self) -> usize
+        ensures inside { result ≤ length self.now }
+        ensures free { AreFreeFrom self.now result }
+    {
+        self.used
+    }
+
+    // Puts another pass in the place of one.
+    pub(crate) fn set(&mut self, p: u8, new: Work<PlanFrame>)
+        requires { p < length self.old }
+        ensures value { self.new ≡ slice_set self.old p new }
+    {
+        put_pass(self.all.as_mut_slice(), p, new);
+        self.used = self.used.max(p as usize + 1);
+    }
 }
 
 // Whether two tiles are one.
@@ -79,15 +147,23 @@ fn job_holds(k: u8, level: u8, t: TileId, job: Option<JobNote>) -> bool
     }
 }
 
-// The first of some passes whose job holds the tile of a level.
-pub(crate) fn holder_of(k: u8, passes: &[Work<PlanFrame>], level: u8, t: TileId) -> Option<u8>
+// The first of some passes whose job holds the tile of a level, where all from `used` on are free.
+pub(crate) fn holder_of(
+    k: u8,
+    passes: &[Work<PlanFrame>],
+    used: usize,
+    level: u8,
+    t: TileId,
+) -> Option<u8>
     requires k { IsSize k }
     requires few { length passes.now ≤ 256 }
+    requires used { used ≤ length passes.now }
+    requires free { AreFreeFrom passes.now used }
     ensures value { result ≡ first_of (filter
         (λ p. job_holds k level t (job_of (slice_index_or passes.now p Free))) (range_with_len 0 (length passes.now))) }
 {
     let mut first = None;
-    for p in 0..passes.len() {
+    for p in 0..used {
         let found = job_holds(k, level, t, job_of(&passes[p]));
         first = or_found(first, found, p as u8);
     }
@@ -151,13 +227,21 @@ fn lesser_of(least: Option<u64>, other: Option<u64>) -> Option<u64>
     }
 }
 
-// The least number of a frame, of some passes, that pins the tile of a level.
-pub(crate) fn pinner_of(k: u8, passes: &[Work<PlanFrame>], level: u8, t: TileId) -> Option<u64>
+// The least number of a frame, of some passes, that pins the tile of a level, where all from `used` on are free.
+pub(crate) fn pinner_of(
+    k: u8,
+    passes: &[Work<PlanFrame>],
+    used: usize,
+    level: u8,
+    t: TileId,
+) -> Option<u64>
     requires k { IsSize k }
+    requires used { used ≤ length passes.now }
+    requires free { AreFreeFrom passes.now used }
     ensures value { result ≡ fold lesser None (flat_map (λ pass. pins_of k level t (frame_of pass)) passes.now) }
 {
     let mut least = None;
-    for p in 0..passes.len() {
+    for p in 0..used {
         let number = pinning(k, &passes[p], level, t);
         least = lesser_of(least, number);
     }
@@ -201,19 +285,23 @@ fn job_under(k: u8, level: u8, region: Region, job: Option<JobNote>) -> Option<T
     }
 }
 
-// The earliest tile of a level that a region meets and that a job of some passes has.
+// The earliest tile of a level that a region meets and that a job of some passes has, where all from `used` on
+// are free.
 #[tactic(auto, unfolding(crate::specs::Found::first_under))]
 pub(crate) fn first_under(
     k: u8,
     passes: &[Work<PlanFrame>],
+    used: usize,
     level: u8,
     region: Region,
 ) -> Option<TileId>
-    requires { IsSize k }
+    requires size { IsSize k }
+    requires used { used ≤ length passes.now }
+    requires free { AreFreeFrom passes.now used }
     ensures { result ≡ first_under k level region passes.now }
 {
     let mut first = None;
-    for p in 0..passes.len() {
+    for p in 0..used {
         let tile = job_under(k, level, region, job_of(&passes[p]));
         first = earlier(first, tile);
     }

@@ -1,6 +1,6 @@
 //! The plan of a book.
 
-ghost use Rattle.std.specs.Prelude.{◌≡◌, ℕ, ◌+◌, ◌^◌, ◌<◌, ◌≤◌, map, replicate, length, slice_index_or, IfOk};
+ghost use Rattle.std.specs.Prelude.{◌≡◌, ℕ, ◌+◌, ◌^◌, ◌<◌, ◌≤◌, map, length, slice_index_or, IfOk};
 ghost use Rattle.std.specs.Prelude.{is_some, Some};
 ghost use Rattle.std.specs.Option.{option_map};
 ghost use Rattle.std.specs.List.{range_with_len};
@@ -21,6 +21,7 @@ use crate::desk::{PlanDesk, PlanFrame};
 use crate::in_use::roomy_window;
 use crate::levels::PlanLevel;
 use crate::moves::fill_in;
+use crate::passes::Passes;
 use active_region::Actives;
 use clip_regions::Region;
 use plan_model::{Answer, Event, JobNote, Work};
@@ -115,18 +116,6 @@ fn start_levels(alloc: Global, k: u8, count: u8) -> Result<Vec<PlanLevel>, Alloc
     Ok(out)
 }
 
-// Free passes.
-#[tactic(auto, using(std::proofs::lemmas::List::replicate_more))]
-fn free_passes(alloc: Global, count: u8) -> Result<Vec<Work<PlanFrame>>, AllocError>
-    ensures value { IfOk result (λ v. v.items ≡ replicate count Free) }
-{
-    let mut out = Vec::with_capacity(alloc, count as usize)?;
-    'made: for _ in 0..count {
-        out.push(Work::Free)?;
-    }
-    Ok(out)
-}
-
 impl PlanDesk {
     // The plan at the start.
     fn start(alloc: Global, k: u8, levels: u8) -> Result<PlanDesk, AllocError>
@@ -135,7 +124,7 @@ impl PlanDesk {
         ensures { IfOk result (λ d. HasStarted k levels d) }
     {
         let levels = start_levels(alloc, k, levels)?;
-        let passes = free_passes(alloc, 16)?;
+        let passes = Passes::start(alloc, 16)?;
         Ok(PlanDesk {
             k,
             x: 0,

@@ -12,5 +12,5 @@ use Rattle.book_plan.proofs.desk.PlanDesk.start.Goals as goal
 pub returns : goal.returns
 returns c =
     let levels : c.in_ok-levels.levels.items ≡ map (started c.args.k) (range_with_len 0 c.args.levels) = search rules in
-    let passes : c.in_ok-passes.passes.items ≡ replicate 16 Free = search rules in
+    let passes : c.in_ok-passes.passes ≡ replicate 16 Free = search rules in
     subst (HasStarted c.args.k c.args.levels) (sym (ap₂ (λ (ls : List Shelf) (ps : List Pass). let d : Desk = record { k = c.args.k; x = pos 0; y = pos 0; altitude = 0; levels = ls; begun = 0; passes = ps } in d) levels passes)) (record { state = start_is c.args.k c.args.levels; slots = start_slots c.args.k c.args.levels })
