@@ -1,9 +1,11 @@
 -- The heights of a job's cells, written one after the other.
-use Rattle.std.proofs.Common.{◌≡◌, ℕ, ◌+◌, ◌*◌, ◌/◌, ◌%◌, ◌<◌, ◌≤◌, ℤ, pos, ◌+ℤ◌, ◌-ℤ◌, ◌≤ℤ◌, List, [], ◌∷◌, zero, suc, map, take, length, get_or, set, get_or-set_same, get_or-set_other, length-set, refl, ap, sym, ◌∙◌, subst, inl, inr, arith}
+use Rattle.std.proofs.Common.{◌≡◌, ℕ, ◌+◌, ◌*◌, ◌/◌, ◌%◌, ◌<◌, ◌≤◌, ℤ, pos, ◌+ℤ◌, ◌-ℤ◌, ◌≤ℤ◌, List, [], ◌∷◌, zero, suc, map, take, replicate, length, get_or, set, get_or-set_same, get_or-set_other, length-set, refl, ap, sym, ◌∙◌, subst, inl, inr, arith}
 use Rattle.std.specs.Int.{int_gap}
 use Rattle.std.proofs.lemmas.Int.{ints}
 use Rattle.std.proofs.lemmas.Bool.{cases_eq}
 use Rattle.std.proofs.lemmas.Nat.{div-mul-add, mod-mul-add}
+use Rattle.std.proofs.lemmas.List.{get_or-replicate, length-replicate}
+use Rattle.std.proofs.Math.Nat.{mod-lt, div-lt_iff_lt-mul, mul_comm}
 use Rattle.clip_regions.specs.declared.region.Region.{Region}
 use mathlib.Core.Path.{ap₂}
 use Rattle.clip_regions.specs.Regions.{columns, rows, area, cells}
@@ -16,7 +18,7 @@ use Rattle.terrain_store.specs.Shapes.{Land}
 use Rattle.torus_grid.proofs.Written.{IsShort, short_from}
 use Rattle.clip_book.specs.Jobs.{IsJob, heights_of}
 use Rattle.clip_book.specs.Laws.{StandByPlaces, ReadByPlaces}
-use Rattle.grid_fills.specs.Filling.{IsFilledTo}
+use Rattle.grid_fills.specs.Filling.{IsFilledTo, AreZero}
 
 -- ---- the sides of a job's cells
 pub short_of : InsideIsHeld → (land : Land) (note : JobNote) (patch : Patch) (r : Region) → IsJob land note patch → r ≡ note.piece.cells → IsShort r
@@ -70,6 +72,20 @@ filled_whole height r across n k out so_far last few e m l =
     let less : m < n = subst (λ (s : ℕ). m < s) (length_take out n there) l in
     let below : m < k = subst (λ (s : ℕ). m < s) (sym last) less in
     get_take out n m less ∙ so_far.heights m below ∙ ap (λ (s : ℕ). height (r.x0 +ℤ pos (m % s)) (r.y0 +ℤ pos (m / s))) e
+
+-- heights 0 stand for cells whose heights are 0
+zero_at : (n m k : ℕ) → m < n → n ≤ k → get_or (take n (replicate k (pos 0))) m (pos 0) ≡ pos 0
+zero_at n m k less few = get_take (replicate k (pos 0)) n m less ∙ get_or-replicate k m (pos 0) (pos 0) (omega arith)
+
+pub zeros_stand : (height : ℤ → ℤ → ℤ) (r : Region) (across down : ℕ) → AreZero height r → across ≡ columns r → pos across ≡ r.x1 +ℤ pos 1 -ℤ r.x0 → pos down ≡ r.y1 +ℤ pos 1 -ℤ r.y0 → 0 < across → across * down ≤ 64 → StandByPlaces height r (take (across * down) (replicate 64 (pos 0)))
+zeros_stand height r across down flat e east south some few m l =
+    let there : across * down ≤ length (replicate 64 (pos 0)) = subst (λ (s : ℕ). across * down ≤ s) (sym (length-replicate 64 (pos 0))) few in
+    let less : m < across * down = subst (λ (s : ℕ). m < s) (length_take (replicate 64 (pos 0)) (across * down) there) l in
+    let column : m % across < across = mod-lt m some in
+    let row : m / across < down = (div-lt_iff_lt-mul {k = across} {x = m} {y = down} some).1 (subst (λ (s : ℕ). m < s) (mul_comm across down) less) in
+    zero_at (across * down) m 64 less few
+    ∙ sym (flat (r.x0 +ℤ pos (m % across)) (r.y0 +ℤ pos (m / across)) (omega (arith, ints)) (omega (arith, ints, east, column)) (omega (arith, ints)) (omega (arith, ints, south, row)))
+    ∙ ap (λ (s : ℕ). height (r.x0 +ℤ pos (m % s)) (r.y0 +ℤ pos (m / s))) e
 
 pub heights_are : ReadByPlaces → (terrain grid : Terrain) (note : JobNote) (level : ℕ) (r : Region) (across down : ℕ) (out : List ℤ) → terrain ≡ grid → level ≡ note.level → r ≡ note.piece.cells → across ≡ columns r → down ≡ rows r → across * down ≤ 64 → length out ≡ 64 → StandByPlaces (level_height grid level) r (take (across * down) out) → take (across * down) out ≡ heights_of terrain note
 unfolding area

@@ -9,7 +9,7 @@ ghost use Rattle.book_cells.specs.Cells.{IsPainted};
 ghost use Rattle.clip_book.specs.Laws.{StandByPlaces};
 ghost use Rattle.grid_fills.specs.Filling.{IsFilledTo};
 
-use crate::levels::height_of;
+use crate::levels::{height_of, lies_outside};
 use clip_book::{FilledJob, Job, read_by_places_are_listed};
 use clip_regions::Region;
 use height_pyramid::Grid;
@@ -94,6 +94,9 @@ fn heights_on(grid: &Grid, level: u8, cells: BlockCells) -> [i16; 64]
         (take (cells.across * cells.down) result) }
 {
     let mut out = [0i16; 64];
+    if lies_outside(grid, level, cells.cells) {
+        return out;
+    }
     for row in 0..cells.down {
         write_row(grid, level, cells, row, &mut out);
     }
