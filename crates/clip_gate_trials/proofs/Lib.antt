@@ -1,0 +1,2 @@
+-- Lemmas of the trials.
+pub mod Crossings
