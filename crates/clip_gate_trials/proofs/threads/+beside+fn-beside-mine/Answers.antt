@@ -1,12 +1,20 @@
-use denote.Param.Send.{sendable, param_send}
+use denote.Param.Send.{IsSend, IsSync, sendable, param_send, arg_send}
+use contract.Lifetimes.{Lfts}
 use Rattle.std.proofs.Crossing.{crosses}
 use Rattle.clip_gate.proofs.Crossings.{pass_send, clip_sync}
 use Rattle.clip_gate_trials.proofs.Crossings.{store_sync, drawn_send}
+use Rattle.clip_gate_trials.specs.contracts.threads.beside as beside
+use Rattle.clip_gate_trials.proofs.threads.+beside+fn-beside-mine.Given as given
+use Rattle.clip_gate_trials.proofs.threads.+beside+fn-beside-mine.Lts-beside as lts
 use Rattle.clip_gate_trials.proofs.threads.+beside+fn-beside-mine.Goals as goal
+
+taken_send : (g : given.Over) (κs : Lfts 12) → IsSync (beside.R-row g.row.R) → IsSend (lts.arg-6-1 g.row.R g.R.laws g.R.Threads-dict g.R.Wait-dict κs)
+taken_send g κs sync = search (sendable, crosses, pass_send, clip_sync, store_sync) depth 60 fits 20000
 
 pub join-theirs-requires-send-F : goal.join-theirs-requires-send-F
 join-theirs-requires-send-F g t c κs within =
-    param_send 1 _ (search (sendable, crosses, pass_send, clip_sync, store_sync) depth 60 fits 20000)
+    let sync : IsSync (beside.R-row g.row.R) = search (sendable, crosses) in
+    param_send 1 (lts.arg-6-1 g.row.R g.R.laws g.R.Threads-dict g.R.Wait-dict κs) (taken_send g κs sync)
 
 pub join-theirs-requires-send-A : goal.join-theirs-requires-send-A
-join-theirs-requires-send-A g t c κs within = param_send 3 _ drawn_send
+join-theirs-requires-send-A g t c κs within = search (param_send, arg_send, drawn_send)
