@@ -40,18 +40,26 @@ abbrev pub decreases-mine : goal.decreases-mine
 decreases-mine g l = 2 * l.more - 1
 ANTT
 cat >crates/gate_turns/proofs/+beside+fn-beside-mine/Answers.antt <<'ANTT'
-use denote.Param.Send.{IsSync, sendable, param_send}
+use denote.Param.Send.{IsSend, IsSync, sendable, param_send}
+use contract.Lifetimes.{Lfts}
 use Rattle.std.proofs.Crossing.{crosses}
 use Rattle.clip_gate.proofs.Crossings.{pass_send, clip_sync}
 use Rattle.terrain_store.specs.contracts.store.Store as store
+use Rattle.gate_turns.specs.contracts.beside as beside
+use Rattle.gate_turns.proofs.+beside+fn-beside-mine.Given as given
+use Rattle.gate_turns.proofs.+beside+fn-beside-mine.Lts-beside as lts
 use Rattle.gate_turns.proofs.+beside+fn-beside-mine.Goals as goal
 
 store_sync : IsSync store.the_row
 store_sync = search (sendable, crosses) depth 60 fits 100000
 
+taken_send : (g : given.Over) (κs : Lfts 12) → IsSync (beside.R-row g.row.R) → IsSend (lts.arg-6-1 g.row.R g.R.laws g.R.Threads-dict g.R.Wait-dict κs)
+taken_send g κs sync = search (sendable, crosses, pass_send, clip_sync, store_sync) depth 60 fits 20000
+
 pub join-theirs-requires-send-F : goal.join-theirs-requires-send-F
 join-theirs-requires-send-F g t c κs within =
-    param_send 1 _ (search (sendable, crosses, pass_send, clip_sync, store_sync) depth 60 fits 20000)
+    let sync : IsSync (beside.R-row g.row.R) = search (sendable, crosses) in
+    param_send 1 (lts.arg-6-1 g.row.R g.R.laws g.R.Threads-dict g.R.Wait-dict κs) (taken_send g κs sync)
 ANTT
 cat >crates/gate_turns/src/main.rt <<'RT'
 //! Settles clips by threads, and books.
