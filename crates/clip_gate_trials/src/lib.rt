@@ -4,6 +4,8 @@
 #[cfg(test)]
 mod frames;
 #[cfg(test)]
+mod full;
+#[cfg(test)]
 mod journals;
 #[cfg(test)]
 mod plays;
