@@ -1,6 +1,6 @@
 -- What a clip tells of the script and of the terrain that it was started for.
-use Rattle.std.proofs.Common.{◌≡◌, ℕ, List, sym, ap, ◌∙◌, subst}
-use Rattle.plan_model.specs.Histories.{IsLegalHistory}
+use Rattle.std.proofs.Common.{◌≡◌, ℕ, ◌≤◌, List, length, sym, ap, ◌∙◌, subst, arith}
+use Rattle.plan_model.specs.Histories.{IsLegalHistory, places}
 use Rattle.plan_model.specs.declared.events.Entry.{Entry}
 use Rattle.terrain_model.specs.Terrain.{Terrain}
 use Rattle.terrain_store.specs.Shapes.{Land}
@@ -18,3 +18,8 @@ module _ (has land : Land) (size k levels : ℕ) (log : List Entry) (same : has 
       subst (λ (n : ℕ). AreFramesOf land.terrain n levels log frames) (sym sizes)
       (subst (λ (n : ℕ). AreFramesOf land.terrain size n log frames) levels_of
       (subst (λ (t : Terrain). AreFramesOf t size has.levels log frames) (ap (λ (l : Land). l.terrain) same) h))
+
+-- a history is no longer than the places that it takes
+pub short_for : (k levels : ℕ) (log : List Entry) → places k levels log ≤ 1048576 → length log ≤ 1048576
+unfolding places
+short_for k levels log few = omega (arith, few)

@@ -4,7 +4,7 @@ ghost use Rattle.std.specs.Prelude.{◌≡◌, ◌<◌, ◌≤◌, IfOk};
 ghost use Rattle.swarm_passes.specs.Playing.{IsStarted};
 ghost use Rattle.clip_swarm.specs.Playing.{IsScriptFor, IsPlayed, asked_of, passes_of};
 
-use crate::crew::{Crew, Outcome};
+use crate::crew::{Crew, Ground, Outcome};
 use crate::drawing::make_frames;
 use crate::working::{make_claims, make_moves};
 use clip_gate::{Clip, Pass};
@@ -121,24 +121,30 @@ fn act<F: Filler>(
 // Does what a pass is to do, and tells of it.
 pub(crate) fn told<F: Filler, P: Post>(
     rt: &impl Wait,
-    alloc: Global,
-    clip: &Clip,
+    ground: &Ground<'_>,
     filler: &F,
     post: &P,
-    script: &SwarmScript,
-    crew: Crew,
     pass: Pass,
 ) -> Result<Outcome, NoMemory>
-    requires land { clip.now.land ≡ F.land filler.now }
-    requires script { IsScriptFor script.now clip.now }
-    requires started { IsStarted clip.now pass.number pass }
-    requires high { pass.number < passes_of crew }
-    ensures played { IfOk result (IsPlayed (asked_of script.now crew) clip.now pass.number) }
+    requires land { ground.now.clip.now.land ≡ F.land filler.now }
+    requires script { IsScriptFor ground.now.script.now ground.now.clip.now }
+    requires started { IsStarted ground.now.clip.now pass.number pass }
+    requires high { pass.number < passes_of ground.now.crew }
+    ensures played { IfOk result
+        (IsPlayed (asked_of ground.now.script.now ground.now.crew) ground.now.clip.now pass.number) }
     ensures left { IfOk result (λ outcome. outcome.pass.left ≡ pass.left) }
 {
     let task = usize::from(pass.number());
     post.begun(task);
-    let outcome = act(rt, alloc, clip, filler, script, crew, pass);
+    let outcome = act(
+        rt,
+        ground.alloc,
+        ground.clip,
+        filler,
+        ground.script,
+        ground.crew,
+        pass,
+    );
     post.ended(task);
     outcome
 }

@@ -4,8 +4,8 @@ ghost use Rattle.std.specs.Prelude.{◌≡◌};
 
 use std::marker::Model;
 
-/// A frame that a run closed: its number, its text as a Wavefront OBJ file, and how many vertices and triangles the text
-/// has. A contract sees these four.
+/// A frame that a run closed: its number, its text as a Wavefront OBJ file, and how many vertices and triangles the
+/// text has. A contract sees these four.
 #[derive(Drop)]
 pub struct SwarmFrame {
     pub(crate) number: u64,

@@ -1,8 +1,8 @@
 //! A swarm: workers, renderers and a mover run freely over one clip, each on a thread of its own.
 //!
 //! [`run`] gives the journal of what came of it, and the text of each frame that it closed. Which history comes of
-//! several threads isn't known before. Where no thread can be had, the activities go on one after another, with the same
-//! promise.
+//! several threads isn't known before. Where no thread can be had, the activities go on one after another, with the
+//! same promise.
 #![tactic(auto)]
 
 mod acting;

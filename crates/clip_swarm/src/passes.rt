@@ -34,7 +34,12 @@ fn split_off(clip: &Clip, first: &mut Pass, number: u8) -> Pass
 }
 
 // So many passes that are split off the first one, in the order of their numbers.
-fn others_of(alloc: Global, clip: &Clip, first: &mut Pass, others: u8) -> Result<Vec<Pass>, NoMemory>
+fn others_of(
+    alloc: Global,
+    clip: &Clip,
+    first: &mut Pass,
+    others: u8,
+) -> Result<Vec<Pass>, NoMemory>
     requires few { others ≤ 15 }
     requires first { first.old ≡ first_pass clip.now }
     ensures first { IsStarted clip.now 0 first.new }

@@ -13,7 +13,7 @@ ghost use Rattle.swarm_passes.specs.Playing.{left_from, IsStarted, AreStarted, F
 ghost use Rattle.clip_swarm.specs.Playing.{orders_of, asked_of, passes_of, IsScriptFor, IsPlayed, ArePlayed, FirstHasLeft, IsGathered};
 
 use crate::acting::told;
-use crate::crew::{Crew, Outcome};
+use crate::crew::{Crew, Ground, Outcome};
 use crate::frame::SwarmFrame;
 use crate::gathering::gathered;
 use crate::passes::all_passes;
@@ -76,14 +76,21 @@ fn all_done<R: Threads + Wait + Sync, F: Filler + Sync, P: Post + Sync>(
     ensures played { IfOk result (λ done. ArePlayed (asked_of script.now crew) clip.now 0 done.items) }
     ensures left { IfOk result (λ done. FirstHasLeft (left_from (passes_of crew)) done.items) }
 {
+    let ground = Ground {
+        alloc,
+        clip,
+        script,
+        crew,
+    };
     let activity = move |pass: Pass| -> Result<Outcome, NoMemory>
-        requires land { clip.now.land ≡ F.land filler.now }
-        requires script { IsScriptFor script.now clip.now }
-        requires started { IsStarted clip.now pass.number pass }
-        requires high { pass.number < passes_of crew }
-        ensures played { IfOk result (IsPlayed (asked_of script.entry.now crew) clip.entry.now pass.number) }
+        requires land { ground.clip.now.land ≡ F.land filler.now }
+        requires script { IsScriptFor ground.script.now ground.clip.now }
+        requires started { IsStarted ground.clip.now pass.number pass }
+        requires high { pass.number < passes_of ground.crew }
+        ensures played { IfOk result
+            (IsPlayed (asked_of ground.entry.script.now ground.entry.crew) ground.entry.clip.now pass.number) }
         ensures left { IfOk result (λ outcome. outcome.pass.left ≡ pass.left) }
-    { told(rt, alloc, clip, filler, post, script, crew, pass) };
+    { told(rt, &ground, filler, post, pass) };
     let done = map_vec(rt, passes, &activity)?;
     Ok(done)
 }
@@ -106,6 +113,7 @@ fn ended(clip: Clip, script: &SwarmScript, crew: Crew, all: Outcome) -> SwarmRun
     ensures whole { result.full ≡ false → IsSwarmRun (asked_of script.now crew) result.journal }
     ensures cut { result.full ≡ true → IsCutRun (asked_of script.now crew) result.journal }
     ensures long { result.full ≡ true → 1048575 ≤ length result.journal }
+    ensures short { length result.journal ≤ 1048576 }
     ensures frames { AreFramesOf clip.land.terrain clip.size clip.land.levels result.journal result.frames.items }
 {
     gathered_passes_are_runs();
@@ -151,6 +159,7 @@ pub fn run<R: Threads + Wait + Sync, F: Filler + Sync, P: Post + Sync>(
         run.full ≡ false → IsSwarmRun (orders_of script.now workers renderers) run.journal) }
     ensures cut { IfOk result (λ run. run.full ≡ true → IsCutRun (orders_of script.now workers renderers) run.journal) }
     ensures long { IfOk result (λ run. run.full ≡ true → 1048575 ≤ length run.journal) }
+    ensures short { IfOk result (λ run. length run.journal ≤ 1048576) }
 
     // By rising number, the frames are exactly those that the journal closes.
     ensures frames { IfOk result (λ run.

@@ -1,5 +1,8 @@
 //! Runs of small swarms.
 
+ghost use Rattle.std.specs.Prelude.{◌≡◌, IfOk};
+ghost use Rattle.terrain_store.specs.Stores.{land_of};
+
 use crate::{SwarmRun, run};
 use clip_script::SwarmScript;
 use decode_rounds::Quiet;
@@ -12,7 +15,9 @@ use std::thread::Threads;
 use terrain_store::{Store, pack};
 
 // The 3 x 3 samples of heights 1 to 9, in a store of one level.
-fn nine(alloc: Global) -> Result<Store, Fail> {
+fn nine(alloc: Global) -> Result<Store, Fail>
+    ensures { IfOk result (λ store. (land_of store).levels ≡ 1) }
+{
     let grid = Grid::new(3, 3, vec![in alloc; 1i16, 2, 3, 4, 5, 6, 7, 8, 9]?);
     match pack(alloc, &grid, 1) {
         Ok(store) => Ok(store),
@@ -21,8 +26,8 @@ fn nine(alloc: Global) -> Result<Store, Fail> {
 }
 
 // How many entries of a journal have this event.
-fn count(run: &SwarmRun, event: Event) -> u32 {
-    let mut count = 0u32;
+fn count(run: &SwarmRun, event: Event) -> usize {
+    let mut count = 0usize;
     for place in 0..run.journal.len() {
         if run.journal.at(place).event == event {
             count = count.saturating_add(1);
@@ -47,7 +52,7 @@ fn two_workers_and_a_renderer(rt: HostRuntime) -> Result<(), Fail> {
     assert_eq!(rt; count(&run, Event::Claim), 24);
     assert_eq!(rt; count(&run, Event::Begin), 2);
     assert_eq!(rt; count(&run, Event::Move { x: 1, y: 1, a: 0 }), 1);
-    assert_eq!(rt; count(&run, Event::End), run.frames.len() as u32);
+    assert_eq!(rt; count(&run, Event::End), run.frames.len());
     Ok(())
 }
 

@@ -1,18 +1,21 @@
 use mir.Syntax.{named}
 use denote.Exit.{no}
+use denote.Param.{param}
+use denote.Ref.{ShrRef}
 use denote.Struct.Tuple.{TupleAt}
-use denote.Param.Send.{IsSync, sendable, param_sync, arg_sync, shr_sync}
-use Rattle.std.proofs.Crossing.{crosses, sync}
-use Rattle.std.proofs.Common.{◌≡◌, ℕ, ◌<◌, length, slice_index_or, sym, ◌∙◌, subst, arith}
+use denote.Param.Send.{sendable, arg_sync, param_sync, shr_sync}
+use Rattle.std.proofs.Crossing.{crosses}
+use Rattle.std.proofs.Common.{◌≡◌, ℕ, ◌<◌, [], ◌∷◌, length, codes, slice_index_or, sym, ◌∙◌, subst, arith}
 use Rattle.std.specs.Prelude.{Result}
 use Rattle.obj_frames.specs.declared.memory.NoMemory.{NoMemory}
 use Rattle.clip_gate.specs.Passes.{PassView}
-use Rattle.clip_gate.proofs.Crossings.{pass_send, clip_sync}
+use Rattle.clip_gate.proofs.Crossings.{pass_send}
 use Rattle.swarm_passes.specs.Playing.{left_from}
 use Rattle.clip_swarm.specs.Playing.{asked_of, passes_of}
 use Rattle.clip_swarm.specs.declared.crew.Outcome.{Outcome}
-use Rattle.clip_swarm.proofs.Crossings.{captures_sync, script_sync, crew_sync}
 use Rattle.clip_swarm.proofs.Outcomes.{starts_at, CameOf, are_played, first_left}
+use Rattle.clip_swarm.specs.contracts.crew.Ground as ground
+use Rattle.clip_swarm.proofs.Crossings.{captures_sync, ground_sync}
 use Rattle.clip_swarm.proofs.running.all_done.Goals as goal
 use Rattle.clip_swarm.proofs.running.all_done.Lts as lts
 
@@ -44,8 +47,14 @@ map_vec-requires-send-J g c κs within = search (sendable, crosses, pass_send) d
 pub map_vec-requires-send-X : goal.map_vec-requires-send-X
 map_vec-requires-send-X g c κs within = search (sendable, crosses, pass_send) depth 30 fits 20000
 
--- what the activity captures: the handle, the allocator, the clip, the filler, the post, the script and the crew
+-- what the activity captures: the handle, the ground, the filler and the post
 pub map_vec-requires-sync-F : goal.map_vec-requires-sync-F
 map_vec-requires-sync-F g c κs within =
-    let captures : IsSync (TupleAt (lts.name-14 g.row.R g.row.F g.row.P g.R.laws g.F.laws g.P.laws g.R.Threads-dict g.R.Wait-dict g.F.Filler-dict g.P.Post-dict) (lts.of-6 g.row.R g.row.F g.row.P g.R.laws g.F.laws g.P.laws g.R.Threads-dict g.R.Wait-dict g.F.Filler-dict g.P.Post-dict (record { mir = named 7; lft = κs.1.1.1.1.1.1.1.0 }) (record { mir = named 8; lft = κs.1.1.1.1.1.1.1.1.0 }) (record { mir = named 9; lft = κs.1.1.1.1.1.1.1.1.1.0 }) (record { mir = named 10; lft = κs.1.1.1.1.1.1.1.1.1.1.0 }) (record { mir = named 11; lft = κs.1.1.1.1.1.1.1.1.1.1.1.0 }))) = captures_sync (lts.name-14 g.row.R g.row.F g.row.P g.R.laws g.F.laws g.P.laws g.R.Threads-dict g.R.Wait-dict g.F.Filler-dict g.P.Post-dict) _ _ _ _ _ _ _ (shr_sync _ _ _ c.type_bounds.sync-R) sync (shr_sync _ _ _ clip_sync) (shr_sync _ _ _ c.type_bounds.sync-F) (shr_sync _ _ _ c.type_bounds.sync-P) (shr_sync _ _ _ script_sync) crew_sync in
-    param_sync 4 (lts.arg-0-4 g.row.R g.row.F g.row.P g.R.laws g.F.laws g.P.laws g.R.Threads-dict g.R.Wait-dict g.F.Filler-dict g.P.Post-dict κs) (arg_sync _ no (TupleAt (lts.name-14 g.row.R g.row.F g.row.P g.R.laws g.F.laws g.P.laws g.R.Threads-dict g.R.Wait-dict g.F.Filler-dict g.P.Post-dict) (lts.of-6 g.row.R g.row.F g.row.P g.R.laws g.F.laws g.P.laws g.R.Threads-dict g.R.Wait-dict g.F.Filler-dict g.P.Post-dict (record { mir = named 7; lft = κs.1.1.1.1.1.1.1.0 }) (record { mir = named 8; lft = κs.1.1.1.1.1.1.1.1.0 }) (record { mir = named 9; lft = κs.1.1.1.1.1.1.1.1.1.0 }) (record { mir = named 10; lft = κs.1.1.1.1.1.1.1.1.1.1.0 }) (record { mir = named 11; lft = κs.1.1.1.1.1.1.1.1.1.1.1.0 }))) captures)
+    let name = codes "clip_swarm::running::fn::all_done::activity+Self" in
+    let handle = ShrRef (named 7) κs.1.1.1.1.1.1.1.0 (param 0 g.row.R) in
+    let shared = ground.the_row (record { mir = named 8; lft = κs.1.1.1.1.1.1.1.1.0 }) in
+    let filler = ShrRef (named 9) κs.1.1.1.1.1.1.1.1.1.0 (param 1 g.row.F) in
+    let post = ShrRef (named 10) κs.1.1.1.1.1.1.1.1.1.1.0 (param 2 g.row.P) in
+    param_sync 4 (lts.arg-0-4 g.row.R g.row.F g.row.P g.R.laws g.F.laws g.P.laws g.R.Threads-dict g.R.Wait-dict g.F.Filler-dict g.P.Post-dict κs)
+    (arg_sync _ no (TupleAt name (handle ∷ shared ∷ filler ∷ post ∷ []))
+    (captures_sync name handle shared filler post (shr_sync _ _ _ c.type_bounds.sync-R) (ground_sync _) (shr_sync _ _ _ c.type_bounds.sync-F) (shr_sync _ _ _ c.type_bounds.sync-P)))
