@@ -296,11 +296,13 @@ fn first_of_faults_side_by_side(rt: HostRuntime) -> Result<(), Fail> {
         Err(fault) => assert_eq!(rt; fault, bad(2, 41)),
     }
     // The same where the last block is cut short.
+    assert!(rt; late.len() > 300000);
     match read_heights_beside(&rt, alloc, &late[..late.len() - 1]) {
         Ok(_) => panic!(rt; "a store"),
         Err(fault) => assert_eq!(rt; fault, bad(2, 41)),
     }
     let whole = plain_store(alloc, &[])?;
+    assert!(rt; whole.len() > 300000);
     let cut = StoreFault::CutShort { offset: 300000 };
     match read_heights_beside(&rt, alloc, &whole[..300000]) {
         Ok(_) => panic!(rt; "a store"),
