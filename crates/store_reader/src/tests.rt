@@ -4,6 +4,7 @@ use super::*;
 use rice_residuals::BlockFault;
 use std::alloc::Global;
 use std::test::Fail;
+use std::thread::Threads;
 use store_model::{Field, StoreFault};
 
 // 3 x 3 samples, all 0 but the middle one of 30000, in two levels.
@@ -276,6 +277,14 @@ fn blocks_side_by_side(rt: HostRuntime) -> Result<(), Fail> {
     Ok(())
 }
 
+// The first fault of bytes that are read side by side, or none where they are a store.
+fn fault_beside<R: Threads + Sync>(rt: &R, alloc: Global, bytes: &[u8]) -> Option<StoreFault> {
+    match read_heights_beside(rt, alloc, bytes) {
+        Ok(_) => None,
+        Err(fault) => Some(fault),
+    }
+}
+
 #[test]
 fn first_of_faults_side_by_side(rt: HostRuntime) -> Result<(), Fail> {
     let alloc = rt.alloc();
@@ -286,27 +295,15 @@ fn first_of_faults_side_by_side(rt: HostRuntime) -> Result<(), Fail> {
         fault: BlockFault::Excess { bytes: 1 },
     };
     let both = plain_store(alloc, &[(3, 11), (2, 41)])?;
-    match read_heights_beside(&rt, alloc, both.as_slice()) {
-        Ok(_) => panic!(rt; "a store"),
-        Err(fault) => assert_eq!(rt; fault, bad(3, 11)),
-    }
-    let late = plain_store(alloc, &[(2, 41)])?;
-    match read_heights_beside(&rt, alloc, late.as_slice()) {
-        Ok(_) => panic!(rt; "a store"),
-        Err(fault) => assert_eq!(rt; fault, bad(2, 41)),
-    }
+    assert_eq!(rt; fault_beside(&rt, alloc, both.as_slice()), Some(bad(3, 11)));
+    let mut late = plain_store(alloc, &[(2, 41)])?;
+    assert_eq!(rt; fault_beside(&rt, alloc, late.as_slice()), Some(bad(2, 41)));
     // The same where the last block is cut short.
-    assert!(rt; late.len() > 300000);
-    match read_heights_beside(&rt, alloc, &late[..late.len() - 1]) {
-        Ok(_) => panic!(rt; "a store"),
-        Err(fault) => assert_eq!(rt; fault, bad(2, 41)),
-    }
-    let whole = plain_store(alloc, &[])?;
-    assert!(rt; whole.len() > 300000);
-    let cut = StoreFault::CutShort { offset: 300000 };
-    match read_heights_beside(&rt, alloc, &whole[..300000]) {
-        Ok(_) => panic!(rt; "a store"),
-        Err(fault) => assert_eq!(rt; fault, cut),
-    }
+    let _ = late.pop();
+    assert_eq!(rt; fault_beside(&rt, alloc, late.as_slice()), Some(bad(2, 41)));
+    let mut cut = plain_store(alloc, &[])?;
+    cut.truncate(300000);
+    let wanted = StoreFault::CutShort { offset: 300000 };
+    assert_eq!(rt; fault_beside(&rt, alloc, cut.as_slice()), Some(wanted));
     Ok(())
 }
