@@ -46,10 +46,7 @@ fn claim_is_refused(rt: &impl Wait, clip: &Clip, pass: &mut Pass) -> bool
     requires { pass.old.clip ≡ clip.now }
     ensures { pass.new.clip ≡ pass.old.clip }
 {
-    matches!(
-        clip.claim(rt, pass),
-        Err(JournalFull { limit: 1_048_576 })
-    )
+    matches!(clip.claim(rt, pass), Err(JournalFull { limit: 1_048_576 }))
 }
 
 // Whether a pass fills the journal: of two places that a claim asks for, one is free before the last publication.
@@ -68,13 +65,7 @@ fn fills_up(rt: &impl Wait, clip: &Clip, store: &Store, pass: &mut Pass) -> bool
 }
 
 // Splits passes off until none is left to give, fills the journal, and joins them: how many there were.
-fn fill_beside(
-    rt: &impl Wait,
-    clip: &Clip,
-    store: &Store,
-    pass: &mut Pass,
-    most: u8,
-) -> Option<u8>
+fn fill_beside(rt: &impl Wait, clip: &Clip, store: &Store, pass: &mut Pass, most: u8) -> Option<u8>
     requires clip { pass.old.clip ≡ clip.now }
     requires land { clip.now.land ≡ land_of store.now }
     ensures { pass.new.clip ≡ pass.old.clip }
