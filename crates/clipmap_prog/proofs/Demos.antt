@@ -1,5 +1,5 @@
 -- The demo's flight as a course.
-use Rattle.std.proofs.Common.{◌≡◌, ℕ, ◌≤◌, List, All, length, refl, ap, sym, ◌∙◌, arith}
+use Rattle.std.proofs.Common.{◌≡◌, ℕ, List, All, length, refl, ap, sym, ◌∙◌, arith}
 use Rattle.terrain_model.specs.Terrain.{Terrain}
 use Rattle.terrain_store.specs.Shapes.{Land}
 use Rattle.plan_model.specs.declared.events.FlyLine.{FlyLine}

@@ -1,3 +1,4 @@
+pub mod Cells
 pub mod Concluding
 pub mod Demos
 pub mod Fetching
@@ -9,4 +10,5 @@ pub mod Sourced
 pub mod Staging
 pub mod Standing
 pub mod Statuses
+pub mod Swarming
 pub mod Tiles

@@ -5,7 +5,6 @@ use Rattle.outer_shelf.specs.Outside.{Files}
 use Rattle.run_actions.specs.Runs.{CallsWithin}
 use Rattle.run_actions.proofs.Ends.{within_one}
 use Rattle.terrain_store.specs.Shapes.{Land}
-use Rattle.clip_script.specs.declared.fault.ScriptFault.{ScriptFault}
 use Rattle.clipmap_prog.specs.Faults.{Cause}
 use Rattle.clipmap_prog.specs.Lands.{land_reading}
 use Rattle.clipmap_prog.specs.Scripts.{Stage, script_reading, stage_of, stage_reading, staged}
@@ -22,7 +21,7 @@ there before now P same holds = let At : Option Files → Type 0 = λ o. IfSome 
 pub back : (before now : Option Files) (P : Files → Type 0) → now ≡ before → IfSome now P → IfSome before P
 back before now P same holds = let At : Option Files → Type 0 = λ o. IfSome o P in subst At same holds
 
-module _ {S : Type 0} (reads : List ℕ → Result S ScriptFault) (levels : S → ℕ) (verdict : Verdict) (name : List ℕ) (inputs : List (List ℕ)) (files : Option Files) where
+module _ {S : Type 0} (reads : List ℕ → Result S Cause) (levels : S → ℕ) (verdict : Verdict) (name : List ℕ) (inputs : List (List ℕ)) (files : Option Files) where
   -- the script is refused
   pub script_stops : {C D : Type 0} (view : C → S) (meant : D → Stage S) (which : Stop) → IfSome files (λ m. Finds {A = C} view (Err which) (script_reading reads name m).found) →
       IfSome files (λ m. Finds {A = D} meant (Err which) (stage_reading reads levels verdict name inputs m).found)

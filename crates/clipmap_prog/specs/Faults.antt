@@ -18,7 +18,7 @@ use Rattle.clipmap_prog.specs.declared.fault.Fault.TheVariants as fault
 
 -- why a command is refused: its words are no command, a word is no tile's name, a file or the tile in it is faulty, the
 -- tiles make no terrain together, a file is no store, or it has another number of levels than was asked for, the mesh
--- of a file isn't watertight, or a file is no script
+-- of a file isn't watertight, a file is no script, or a swarm's script asks for more cells than it may
 pub data Cause : Type 0 where
   Words : Cause
   BadName : List ℕ → Cause
@@ -29,6 +29,7 @@ pub data Cause : Type 0 where
   LevelsDiffer : ℕ → ℕ → Cause
   Mesh : Verdict → Cause
   Script : ScriptFault → Cause
+  TooMuch : ℕ → ℕ → Cause
 
 -- the line of a file of that name that can't be had
 abbrev pub file_line : List ℕ → FileFault → List ℕ
@@ -70,6 +71,8 @@ cause_line (LevelsDiffer stored asked) =
     codes "fault: LevelsDiffer " ++ (decimal stored ++ (codes " " ++ (decimal asked ++ codes "\n")))
 cause_line (Mesh verdict) = verdict_line verdict
 cause_line (Script fault) = script_line fault
+cause_line (TooMuch cells limit) =
+    codes "fault: TooMuch " ++ (decimal cells ++ (codes " " ++ (decimal limit ++ codes "\n")))
 
 -- the cause that a fault of the program's stands for
 abbrev pub cause_of : Fault → Cause
@@ -82,3 +85,4 @@ cause_of (fault.Store which) = Store which
 cause_of (fault.LevelsDiffer stored asked) = LevelsDiffer stored asked
 cause_of (fault.Mesh verdict) = Mesh verdict
 cause_of (fault.Script which) = Script which
+cause_of (fault.TooMuch cells limit) = TooMuch cells limit

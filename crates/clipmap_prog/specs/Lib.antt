@@ -16,4 +16,5 @@ pub mod Reading
 pub mod Scripts
 pub mod Sources
 pub mod Stores
+pub mod Swarm
 pub mod Verdicts

@@ -20,14 +20,13 @@ scripted (Ok script) = Ok script
 scripted (Err fault) = Err (Script fault)
 
 -- the script of a file, if it is there and no longer than the limit
-abbrev pub script_of_file : {S : Type 0} → (List ℕ → Result S ScriptFault) → List ℕ → Option (List ℕ) → Result S Cause
+abbrev pub script_of_file : {S : Type 0} → (List ℕ → Result S Cause) → List ℕ → Option (List ℕ) → Result S Cause
 script_of_file read name None = Err (File name Absent)
 script_of_file read name (Some bytes) =
-    if nat_lt script_limit (length bytes) then Err (File name (TooLong (length bytes) script_limit))
-    else scripted (read bytes)
+    if nat_lt script_limit (length bytes) then Err (File name (TooLong (length bytes) script_limit)) else read bytes
 
 -- the script of a name, by one fetch
-abbrev pub script_reading : {S : Type 0} → (List ℕ → Result S ScriptFault) → List ℕ → Files → Reading S
+abbrev pub script_reading : {S : Type 0} → (List ℕ → Result S Cause) → List ℕ → Files → Reading S
 script_reading read name files = fetched (script_of_file read name (map.get files name))
 
 -- a script, and the terrain that it is done over
@@ -44,6 +43,6 @@ staged levels verdict names files script =
     and_then (land_reading verdict names (levels script) files) (λ land. unfetched (Ok (stage_of script land)))
 
 -- what a script's name and inputs come to: the script is judged before any input
-unfoldable pub stage_reading : {S : Type 0} → (List ℕ → Result S ScriptFault) → (S → ℕ) → Verdict → List ℕ → List (List ℕ) → Files → Reading (Stage S)
+unfoldable pub stage_reading : {S : Type 0} → (List ℕ → Result S Cause) → (S → ℕ) → Verdict → List ℕ → List (List ℕ) → Files → Reading (Stage S)
 stage_reading read levels verdict name inputs files =
     and_then (script_reading read name files) (staged levels verdict inputs files)

@@ -52,6 +52,13 @@ pub(crate) enum Fault<'a> {
     Mesh(Verdict),
     // The file is no script.
     Script(ScriptFault),
+    // The script asks for more cells in all frames than a swarm may draw.
+    TooMuch {
+        // How many it asks for.
+        cells: u64,
+        // The most that it may.
+        limit: u64,
+    },
 }
 
 // The line of a file of that name that can't be had.
@@ -121,5 +128,6 @@ pub(crate) fn fault_line(alloc: Global, fault: Fault<'_>) -> Result<String, Allo
         }
         Fault::Mesh(verdict) => verdict_line(alloc, verdict),
         Fault::Script(fault) => script_line(alloc, fault),
+        Fault::TooMuch { cells, limit } => format!(in alloc; "fault: TooMuch {cells} {limit}\n"),
     }
 }

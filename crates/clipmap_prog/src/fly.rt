@@ -4,11 +4,11 @@ ghost use Rattle.std.specs.FinMap as finite;
 ghost use Rattle.outer_shelf.specs.Counts.{Rose, one_more};
 ghost use Rattle.terrain_store.specs.Stores.{land_of};
 ghost use Rattle.clip_script.specs.Ranges.{AreSizes};
-ghost use Rattle.clip_script.specs.Scripts.{flight_of, fly_view as script_view};
+ghost use Rattle.clip_script.specs.Scripts.{fly_view as script_view};
 ghost use Rattle.clip_runs.specs.Courses.{AreWorkers, IsFlyInRange as IsScriptInRange};
 ghost use Rattle.clipmap_words.specs.Fly.{IsFlyInRange, fly_view};
-ghost use Rattle.clipmap_prog.specs.Fly.{flown, fly_outcome, fly_reading, stage_view};
-ghost use Rattle.clipmap_prog.specs.Scripts.{script_of_file, scripted};
+ghost use Rattle.clipmap_prog.specs.Fly.{read_fly, flown, fly_outcome, fly_reading, stage_view};
+ghost use Rattle.clipmap_prog.specs.Scripts.{script_of_file};
 ghost use Rattle.clipmap_prog.specs.Promise.{Runs};
 ghost use Rattle.clipmap_prog.specs.Reading.{Finds, OnStop};
 ghost use Rattle.run_actions.specs.Runs.{CallsWithin, HadReason, Ran};
@@ -37,7 +37,7 @@ pub(crate) struct Staged {
 
 // The script of the bytes of a file, if they are one.
 fn judge_script<'a>(alloc: Global, bytes: &[u8]) -> Result<FlyScript, Stop<'a>>
-    ensures found { Finds script_view result (scripted (flight_of bytes.now)) }
+    ensures found { Finds script_view result (read_fly bytes.now) }
     ensures in_range { IfOk result (λ script. IsScriptInRange script.levels (script_view script)) }
     ensures reason { OnStop result ⊥ }
 {
@@ -55,7 +55,7 @@ fn fetch_script<'a, S: Shelf>(
     name: &'a str,
 ) -> Result<FlyScript, Stop<'a>>
     ensures found { IfSome (S.told shelf.old).files (λ files. Finds script_view result
-        (script_of_file flight_of name.now (finite.get files name.now))) }
+        (script_of_file read_fly name.now (finite.get files name.now))) }
     ensures in_range { IfOk result (λ script. IsScriptInRange script.levels (script_view script)) }
     ensures counted { (S.told shelf.new).calls ≡ option_map one_more (S.told shelf.old).calls }
     ensures reason { OnStop result (Rose (S.told shelf.old).faults (S.told shelf.new).faults) }

@@ -1,16 +1,20 @@
 //! The program: the words of its command line, read or not, to its exit status.
-ghost use Rattle.std.specs.Prelude.{◌≡◌};
+ghost use Rattle.std.specs.Prelude.{◌≡◌, map, string_bytes};
 ghost use Rattle.std.specs.Process.{exit_status};
 ghost use Rattle.clipmap_prog.specs.Commands.{OfOutcome};
 ghost use Rattle.clipmap_prog.specs.Program.{words_told};
 ghost use Rattle.clipmap_prog.specs.Promise.{HasCauses, IsComplete, ShelfCallsWithin, SinkCallsWithin, Stands};
+ghost use Rattle.clipmap_prog.specs.Swarm.{AnswersSwarm, HasSwarmCauses};
 
+use crate::swarm_top::swarm;
 use crate::top::clipmap;
+use clipmap_words::is_swarm;
 use outer_shelf::{FolderShelf, Shelf, Sink, StreamSink};
 use std::alloc::Global;
 use std::marker::Model;
 use std::process::{ExitCode, Termination};
 use std::rt::{Env, Files};
+use std::sync::Wait;
 use std::thread::Threads;
 use std::{env, io};
 
@@ -68,6 +72,24 @@ pub fn run_program<R: Threads + Sync, S: Shelf, K: Sink>(
     Ended { status }
 }
 
+/// Runs the words of a command line that are for [`swarm`](fn@crate::swarm), and ends with its status.
+pub fn run_swarm_program<R: Threads + Wait + Sync, S: Shelf, K: Sink>(
+    rt: &R,
+    alloc: Global,
+    words: &[String],
+    shelf: &mut S,
+    out: &mut K,
+) -> Ended
+    ensures stands_where_told { AnswersSwarm S.leaves (map string_bytes words.now) result
+        (S.told shelf.old) (S.told shelf.new) (K.told out.old) (K.told out.new) }
+    ensures causes { HasSwarmCauses (map string_bytes words.now) result
+        (S.told shelf.old) (S.told shelf.new) (K.told out.old) (K.told out.new) }
+{
+    Ended {
+        status: swarm(rt, alloc, words, shelf, out),
+    }
+}
+
 // The words after the program's name.
 fn command_words<R: Env + AllocGlobal>(rt: &R) -> io::Result<Vec<String>> {
     let mut words = Vec::new(rt.alloc());
@@ -77,9 +99,15 @@ fn command_words<R: Env + AllocGlobal>(rt: &R) -> io::Result<Vec<String>> {
     Ok(words)
 }
 
-/// Runs the program over its command line, the working folder and standard output.
-pub fn run_main<R: Env + Files + Print + Threads + Sync + AllocGlobal>(rt: &R) -> Ended {
+/// Runs the program over its command line, the working folder and standard output: words whose first is `swarm` by
+/// [`run_swarm_program`], and all others by [`run_program`].
+pub fn run_main<R: Env + Files + Print + Threads + Wait + Sync + AllocGlobal>(rt: &R) -> Ended {
     let mut shelf = FolderShelf::new(rt);
     let mut out = StreamSink::new(rt);
-    run_program(rt, rt.alloc(), command_words(rt), &mut shelf, &mut out)
+    match command_words(rt) {
+        Ok(words) if is_swarm(&words) => {
+            run_swarm_program(rt, rt.alloc(), &words, &mut shelf, &mut out)
+        }
+        words => run_program(rt, rt.alloc(), words, &mut shelf, &mut out),
+    }
 }

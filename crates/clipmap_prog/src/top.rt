@@ -82,7 +82,7 @@ fn run_words<R: Threads + Sync, S: Shelf, K: Sink>(
 }
 
 // The status of a run.
-fn status(run: Result<u8, Halt>) -> u8
+pub(crate) fn status(run: Result<u8, Halt>) -> u8
     ensures value { result ≡ status_of run }
 {
     match run {

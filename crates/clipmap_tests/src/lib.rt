@@ -17,4 +17,6 @@ mod plays;
 #[cfg(test)]
 mod stores;
 #[cfg(test)]
+mod swarms;
+#[cfg(test)]
 mod tiles;

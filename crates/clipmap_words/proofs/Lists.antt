@@ -8,6 +8,7 @@ use Rattle.clipmap_words.specs.Fly.{fly_of}
 use Rattle.clipmap_words.specs.Frame.{frame_of}
 use Rattle.clipmap_words.specs.Pack.{pack_of}
 use Rattle.clipmap_words.specs.PackBy.{pack_by_of}
+use Rattle.clipmap_words.specs.Swarm.{swarm_of}
 
 pub list_any-map : {A B : Type 0} (p : B → Bool) (f : A → B) (xs : List A) → list_any p (map f xs) ≡ list_any (λ x. p (f x)) xs
 list_any-map p f [] = refl
@@ -44,6 +45,15 @@ pack_by_of_few [] few = refl
 pack_by_of_few (_ ∷ []) few = refl
 pack_by_of_few (_ ∷ _ ∷ []) few = refl
 pack_by_of_few (_ ∷ _ ∷ _ ∷ rest) few = absurd (omega arith)
+
+-- fewer than four words are no swarm
+pub swarm_of_few : (words : List (List ℕ)) → length words < 4 → swarm_of words ≡ None
+unfolding swarm_of
+swarm_of_few [] few = refl
+swarm_of_few (_ ∷ []) few = refl
+swarm_of_few (_ ∷ _ ∷ []) few = refl
+swarm_of_few (_ ∷ _ ∷ _ ∷ []) few = refl
+swarm_of_few (_ ∷ _ ∷ _ ∷ _ ∷ rest) few = absurd (omega arith)
 
 -- the inputs' test in the words of the strings that hold them
 pub is_inputs-map : {A : Type 0} (f : A → List ℕ) (xs : List A) → is_inputs (map f xs) ≡ (nat_le 1 (length xs) && nat_le (length xs) 64 && list_all (λ x. is_name (f x)) xs && (nat_eq (length xs) 1 || not (list_any (λ x. is_store (f x)) xs)))

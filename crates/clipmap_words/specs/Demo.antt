@@ -1,5 +1,5 @@
 -- The words of `demo`.
-use Rattle.std.specs.Prelude.{ℕ, ◌-◌, ◌^◌, Option, Some, None, List, [], ◌∷◌, option_map}
+use Rattle.std.specs.Prelude.{ℕ, ◌-◌, ◌^◌, Option, None, List, [], ◌∷◌, option_map}
 use Rattle.number_words.specs.Numbers.{natural_of}
 use Rattle.clipmap_words.specs.declared.demo.DemoWords.{DemoWords}
 

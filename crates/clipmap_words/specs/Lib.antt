@@ -9,3 +9,4 @@ pub mod Numbers
 pub mod Pack
 pub mod PackBy
 pub mod Play
+pub mod Swarm

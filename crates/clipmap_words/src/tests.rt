@@ -1,5 +1,5 @@
 //! One command that is read, as its words give it.
-use crate::{Command, is_store_name, read_words};
+use crate::{Command, is_store_name, is_swarm, read_swarm, read_words};
 use std::alloc::Global;
 use std::test::Fail;
 
@@ -127,6 +127,55 @@ fn reads_the_other_commands(rt: HostRuntime) -> Result<(), Fail> {
     ];
     for (words, want) in table {
         assert_eq!(rt; told(rt.alloc(), words)?.as_str(), want);
+    }
+    Ok(())
+}
+
+// The swarm that these words are, told in a few words of its own.
+fn swarm_told(alloc: Global, words: &[&str]) -> Result<String, Fail> {
+    let mut all = Vec::new(alloc);
+    for word in words {
+        all.push(String::from_str(alloc, word)?)?;
+    }
+    let text = match read_swarm(&all) {
+        Some(swarm) => {
+            format!(in alloc;
+                "swarm {} {} {} {} of {}",
+                swarm.workers,
+                swarm.renderers,
+                swarm.script,
+                swarm.out,
+                swarm.inputs.len()
+            )
+        }
+        None if is_swarm(&all) => format!(in alloc; "no swarm"),
+        None => format!(in alloc; "none"),
+    };
+    Ok(text?)
+}
+
+#[test]
+fn reads_swarms(rt: HostRuntime) -> Result<(), Fail> {
+    let table: [(&[&str], &str); 10] = [
+        (
+            &["swarm", "1", "14", "s", "o", "a.hgt"],
+            "swarm 1 14 s o of 1",
+        ),
+        (
+            &["swarm", "15", "0", "s", "o", "a", "b"],
+            "swarm 15 0 s o of 2",
+        ),
+        (&["swarm", "2", "14", "s", "o", "a"], "no swarm"),
+        (&["swarm", "0", "1", "s", "o", "a"], "no swarm"),
+        (&["swarm", "16", "0", "s", "o", "a"], "no swarm"),
+        (&["swarm", "1", "15", "s", "o", "a"], "no swarm"),
+        (&["swarm", "1", "01", "s", "o", "a"], "no swarm"),
+        (&["swarm", "1", "1", "s", "o"], "no swarm"),
+        (&["fly", "1", "s", "o", "a"], "none"),
+        (&[], "none"),
+    ];
+    for (words, want) in table {
+        assert_eq!(rt; swarm_told(rt.alloc(), words)?.as_str(), want);
     }
     Ok(())
 }

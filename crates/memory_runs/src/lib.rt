@@ -1,9 +1,10 @@
 //! Runs of the top call over a shelf and a sink in memory, for the tests of the whole program.
 #![tactic(auto)]
 
-use clipmap_prog::clipmap;
+use clipmap_prog::{clipmap, swarm};
 use outer_shelf::{MemoryShelf, MemorySink, NoMemory, are_names_distinct};
 use std::alloc::{AllocError, Global};
+use std::sync::Wait;
 use std::thread::Threads;
 
 /// The name of a tile.
@@ -113,6 +114,27 @@ pub fn run_failing<R: Threads + Sync + AllocGlobal>(
     let mut shelf = shelf_of(alloc, files, shelf_failing)?;
     let mut sink = MemorySink::new(alloc, Vec::from_slice(alloc, sink_failing)?);
     let status = clipmap(rt, alloc, words.as_slice(), &mut shelf, &mut sink);
+    Ok(Left {
+        status,
+        shelf,
+        sink,
+    })
+}
+
+/// Runs the words of a swarm over a shelf with these files, where calls of the shelf and of the sink with these numbers
+/// fail.
+pub fn run_swarm<R: Threads + Wait + Sync + AllocGlobal>(
+    rt: &R,
+    words: &[&str],
+    files: &[(&str, &[u8])],
+    shelf_failing: &[u64],
+    sink_failing: &[u64],
+) -> Result<Left, NoMemory> {
+    let alloc = rt.alloc();
+    let words = owned(alloc, words)?;
+    let mut shelf = shelf_of(alloc, files, shelf_failing)?;
+    let mut sink = MemorySink::new(alloc, Vec::from_slice(alloc, sink_failing)?);
+    let status = swarm(rt, alloc, words.as_slice(), &mut shelf, &mut sink);
     Ok(Left {
         status,
         shelf,

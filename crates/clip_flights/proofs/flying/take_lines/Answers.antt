@@ -25,8 +25,8 @@ returns-in_err-take_line g c =
     record {
       flew =
           rw (p.1, p.2) (flying_halted g.S.Shelf.leaves c.args.means.now.name.now c.args.flight.now c.loop-line.flight c.args.workers c.args.lines.now c.loop-line.line-index
-      (g.S.Shelf.told c.args.shelf.now) (g.S.Shelf.told c.loop-line.shelf) (g.K.Sink.told c.args.out.now) (g.K.Sink.told c.loop-line.out) c.loop-line.invariant
-      c.take_line.new.flight _ (g.S.Shelf.told c.take_line.new.shelf) (g.K.Sink.told c.take_line.new.out) (at_drop_more (λ l. l) c.args.lines.now c.loop-line.line-index _ c.loop-line-test.true) _ c.in_err-take_line.ensures.flew);
+          (g.S.Shelf.told c.args.shelf.now) (g.S.Shelf.told c.loop-line.shelf) (g.K.Sink.told c.args.out.now) (g.K.Sink.told c.loop-line.out) c.loop-line.invariant
+          c.take_line.new.flight _ (g.S.Shelf.told c.take_line.new.shelf) (g.K.Sink.told c.take_line.new.out) (at_drop_more (λ l. l) c.args.lines.now c.loop-line.line-index _ c.loop-line-test.true) _ c.in_err-take_line.ensures.flew);
     }
 
 pub returns : goal.returns

@@ -1,0 +1,4 @@
+mod Putting
+mod Showing
+mod Coming
+mod Texts
