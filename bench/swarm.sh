@@ -3,7 +3,7 @@
 # claims each beside 1 and 2 renderers of FRAMES frames each. Of each it prints the seconds on the clock, the frames that were
 # begun and the claims a second, and the pieces that were filled; and for as many frames those of a `fly` of as many workers.
 # A `play` of what each swarm wrote has to put the same files.
-# RUNS says how many runs (5), CLAIMS how many claims (2000), FRAMES how many frames (40).
+# RUNS says how many runs (5), CLAIMS how many claims (2000), FRAMES how many frames (200).
 set -eu
 top=$(cd "$(dirname "${BASH_SOURCE[0]}")/.." && pwd)
 work=$(mktemp -d)
@@ -27,7 +27,7 @@ open('N00E000.hgt', 'wb').write(samples.tobytes())
 PY
 "$program" pack 6 hills.gct N00E000.hgt
 
-python3 - "${RUNS:-5}" "${CLAIMS:-2000}" "${FRAMES:-40}" "$program" <<'PY'
+python3 - "${RUNS:-5}" "${CLAIMS:-2000}" "${FRAMES:-200}" "$program" <<'PY'
 import filecmp, glob, os, random, subprocess, sys, time
 runs, claims, frames, program = int(sys.argv[1]), int(sys.argv[2]), int(sys.argv[3]), sys.argv[4]
 middle = lambda numbers: sorted(numbers)[len(numbers) // 2]
