@@ -1,4 +1,6 @@
 //! Worked examples of `swarm`, over a shelf and a sink in memory.
+ghost use Rattle.std.specs.Prelude.{◌<◌};
+
 use memory_runs::{Left, NINE, TILE, line, lines, run, run_swarm};
 use outer_shelf::NoMemory;
 use std::alloc::Global;
@@ -157,7 +159,10 @@ fn failing_calls(rt: HostRuntime) -> Result<(), Fail> {
 }
 
 // A number below a limit, of a state that goes on.
-fn drawn(state: &mut u64, limit: u64) -> u64 {
+fn drawn(state: &mut u64, limit: u64) -> u64
+    requires { 0 < limit }
+    ensures { result < limit }
+{
     *state = state
         .wrapping_mul(6364136223846793005)
         .wrapping_add(1442695040888963407);
