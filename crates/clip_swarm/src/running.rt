@@ -72,6 +72,8 @@ fn all_done<R: Threads + Wait + Sync, F: Filler + Sync, P: Post + Sync>(
     requires count { length passes.items ≡ passes_of crew }
     requires started { AreStarted clip.now 0 passes.items }
     requires left { FirstLeaves (left_from (passes_of crew)) passes.items }
+
+    // Each pass has done of its share what it could, and the first can still split off as many as before.
     ensures count { IfOk result (λ done. length done.items ≡ passes_of crew) }
     ensures played { IfOk result (λ done. ArePlayed (asked_of script.now crew) clip.now 0 done.items) }
     ensures left { IfOk result (λ done. FirstHasLeft (left_from (passes_of crew)) done.items) }
@@ -109,6 +111,8 @@ fn sorted(frames: Vec<SwarmFrame>) -> Vec<SwarmFrame>
 fn ended(clip: Clip, script: &SwarmScript, crew: Crew, all: Outcome) -> SwarmRun
     requires few { crew.workers + crew.renderers ≤ 15 }
     requires all { IsGathered (asked_of script.now crew) clip (passes_of crew) (passes_of crew) all }
+
+    // The journal is a legal history of a whole run, or of a cut one, and the frames are those that it closes.
     ensures legal { IsLegalHistory clip.size clip.land.levels result.journal }
     ensures whole { result.full ≡ false → IsSwarmRun (asked_of script.now crew) result.journal }
     ensures cut { result.full ≡ true → IsCutRun (asked_of script.now crew) result.journal }

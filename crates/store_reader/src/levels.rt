@@ -66,6 +66,8 @@ fn read_next<B: BlockReader>(
     requires some { 1 ≤ n }
     requires few { n < header.levels }
     requires last { LevelsRead (head_of header) n bytes.now last.now.at last.now.grid }
+
+    // One level more was read, or a fault is told.
     ensures read { IfOk result (λ reached. LevelsRead (head_of header) (n + 1) bytes.now reached.at reached.grid) }
     ensures fault { IfErr result (λ fault. (fault ≡ NoMemory) ⊎ HasStoreFault bytes.now fault) }
 {

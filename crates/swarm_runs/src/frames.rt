@@ -45,10 +45,7 @@ pub(crate) fn put_frames<S: Shelf>(
     ensures { HasPut S.leaves (frame_puts name.now frames.now) result (S.told shelf.old) (S.told shelf.new) }
 {
     for frame in frames {
-        match put_frame(alloc, shelf, name, frame) {
-            Ok(()) => {}
-            Err(halt) => return Err(halt),
-        }
+        put_frame(alloc, shelf, name, frame)?;
     }
     Ok(())
 }

@@ -54,10 +54,8 @@ fn show<S: Shelf, K: Sink>(
         Ok(text) => text,
         Err(_) => return Err(Halt::NoMemory),
     };
-    match put_frames(alloc, shelf, name, &run.frames) {
-        Ok(()) => ended(status(run), write(out, &text)),
-        Err(halt) => Err(halt),
-    }
+    put_frames(alloc, shelf, name, &run.frames)?;
+    ended(status(run), write(out, &text))
 }
 
 /// Runs a swarm over the terrain that the filler's shape names, puts the frames that it closed, `NAME-f.obj` by rising
