@@ -127,7 +127,7 @@ needed_last land note e = ap (λ (b : Bool). cond b empty_region (need note.piec
 needed_finer : (land : Land) (note : JobNote) → (note.level + 1 == land.levels) ≡ false → needed land.levels note ≡ need note.piece.cells
 needed_finer land note e = ap (λ (b : Bool). cond b empty_region (need note.piece.cells)) e
 
-seen_none : (grid : Grid) (region : Region) (i j : ℤ) → contains region i j ≡ false → seen grid region i j ≡ pos 0
+pub seen_none : (grid : Grid) (region : Region) (i j : ℤ) → contains region i j ≡ false → seen grid region i j ≡ pos 0
 unfolding seen
 seen_none grid region i j e = ap (λ (b : Bool). cond b (height_at grid i j) (pos 0)) e
 

@@ -205,6 +205,22 @@ fn seen_rows(torus: &Torus, region: Region, i0: i32, j0: i32) -> [[i16; 7]; 7]
     ]
 }
 
+// The heights of seven by seven cells from column `i0` and row `j0` on, of which not all lie in the region: 0 at once
+// where it has no cell.
+fn cut_square(torus: &Torus, region: Region, i0: i32, j0: i32) -> [[i16; 7]; 7]
+    requires home { AreHome torus.now region }
+    requires column { IsCorner i0 }
+    requires row { IsCorner j0 }
+    ensures { (a b : ℕ) → a < 7 → b < 7 →
+        slice_index_or (slice_index_or result b []) a (pos 0) ≡ seen torus.now region (i0 +ℤ pos a) (j0 +ℤ pos b) }
+{
+    if region.is_empty() {
+        [[0; 7]; 7]
+    } else {
+        seen_rows(torus, region, i0, j0)
+    }
+}
+
 // The heights of seven by seven cells from column `i0` and row `j0` on: all at once where they all lie in the region.
 fn seen_square(torus: &Torus, region: Region, i0: i32, j0: i32) -> [[i16; 7]; 7]
     requires home { AreHome torus.now region }
@@ -216,7 +232,7 @@ fn seen_square(torus: &Torus, region: Region, i0: i32, j0: i32) -> [[i16; 7]; 7]
     if region.contains(i0, j0) && region.contains(i0 + 6, j0 + 6) {
         torus.patch(i0, j0)
     } else {
-        seen_rows(torus, region, i0, j0)
+        cut_square(torus, region, i0, j0)
     }
 }
 
