@@ -1,13 +1,15 @@
 //! A frame that ends, drawn: its name, its text, and the line that tells of it.
 
-ghost use Rattle.std.specs.Prelude.{◌≡◌, ◌<◌, ◌∷◌, [], IfOk, length, map, string_bytes};
+ghost use Rattle.std.specs.Prelude.{◌≡◌, ◌<◌, ◌∷◌, [], IsSome, IfOk, length, map, string_bytes};
+ghost use Rattle.std.specs.Thread.{IsSync};
 ghost use Rattle.terrain_model.specs.Terrain.{Terrain};
-ghost use Rattle.plan_model.specs.States.{OpenFrame};
+ghost use Rattle.plan_model.specs.States.{OpenFrame, pass_at, frame_of};
 ghost use Rattle.plan_holds.specs.Kept.{HasFrame};
 ghost use Rattle.mesh_model.specs.Seen.{is_kept};
 ghost use Rattle.book_plan.specs.Notes.{open_frame};
 ghost use Rattle.run_actions.specs.Actions.{Put, Write};
 ghost use Rattle.run_actions.specs.Runs.{HadReason, Ran};
+ghost use Rattle.decode_workers.specs.Drawn.{IsFrameMesh};
 ghost use Rattle.clip_desk.specs.Frames.{frame_name, mesh_of, seen_text_of, whole_text_of};
 ghost use Rattle.clip_desk.specs.Lines.{mesh_line, seen_line};
 ghost use Rattle.clip_desk.specs.Lines.{told_line};
@@ -15,14 +17,14 @@ ghost use Rattle.clip_desk.specs.Lines.{told_line};
 use crate::lines::{KeptCounts, closed_line, closed_seen_line, frame_line};
 use clip_book::{Book, FrameNote};
 use clip_script::View;
-use decode_workers::draw;
+use decode_workers::{NoMemory, draw, draw_beside, vertex_count};
 use obj_frames::{Header, Mesh, Part, cull};
 use outer_shelf::{Shelf, Sink};
-use parallel_text::frame_text_beside;
+use parallel_text::{frame_text_beside, pays, touched};
 use region_cull::kept;
 use run_actions::{Halt, put, write};
 use std::alloc::{AllocError, Global};
-use std::thread::Threads;
+use std::thread::{Threads, join};
 
 /// A frame, drawn.
 #[derive(Drop)]
@@ -77,6 +79,34 @@ pub fn print_whole<R: Threads + Sync>(
     Ok(Drawn { text, line })
 }
 
+// The mesh of the frame of a pass, and the text in whose room its own is to be made. For a large frame that room is
+// made beside the mesh.
+fn drawn_beside<R: Threads + Sync>(
+    rt: &R,
+    alloc: Global,
+    text: Vec<u8>,
+    book: &Book,
+    pass: u8,
+    note: &FrameNote,
+) -> Result<(Mesh, Vec<u8>), NoMemory>
+    requires pass { pass < 16 }
+    requires frame { IsSome (frame_of (pass_at book.now.plan.state pass)) }
+    ensures mesh { IfOk result (λ made. IsFrameMesh book.now pass made.0) }
+{
+    let lines = vertex_count(&note.actives).saturating_mul(3);
+    if !pays(rt, lines) {
+        let mesh = draw(alloc, book, pass)?;
+        return Ok((mesh, text));
+    }
+    let room = move || -> Result<Vec<u8>, NoMemory> { touched(text, lines) };
+    let drawing = move || -> Result<Mesh, NoMemory>
+        requires { IsSync R.row × (pass < 16) × IsSome (frame_of (pass_at book.now.plan.state pass)) }
+        ensures { IfOk result (IsFrameMesh book.entry.now pass) }
+    { draw_beside(rt, alloc, book, pass) };
+    let (text, mesh) = join(rt, room, drawing);
+    Ok((mesh?, text?))
+}
+
 /// Draws the frame of a pass that ends it. Its text is made in the room of another text.
 pub fn draw_whole<R: Threads + Sync>(
     rt: &R,
@@ -95,8 +125,8 @@ pub fn draw_whole<R: Threads + Sync>(
         ≡ mesh_line pass note.now.number
         (mesh_of book.now.land.terrain book.now.plan.state.k (open_frame note.now))) }
 {
-    match draw(alloc, book, pass) {
-        Ok(mesh) => print_whole(rt, alloc, text, &mesh, pass, note),
+    match drawn_beside(rt, alloc, text, book, pass, note) {
+        Ok((mesh, text)) => print_whole(rt, alloc, text, &mesh, pass, note),
         Err(_) => Err(AllocError),
     }
 }
@@ -119,10 +149,9 @@ pub fn draw_alone<R: Threads + Sync>(
         (length (mesh_of book.now.land.terrain book.now.plan.state.k (open_frame note.now)).vertices)
         (length (mesh_of book.now.land.terrain book.now.plan.state.k (open_frame note.now)).triangles)) }
 {
-    let Ok(mesh) = draw(alloc, book, pass) else {
+    let Ok((mesh, text)) = drawn_beside(rt, alloc, Vec::new(alloc), book, pass, note) else {
         return Err(AllocError);
     };
-    let text = Vec::new(alloc);
     let Ok(text) = frame_text_beside(rt, alloc, text, &mesh, &header_of(note)) else {
         return Err(AllocError);
     };

@@ -17,8 +17,9 @@ mod worked;
 
 pub use copies::LevelCopies;
 pub use copy_heights::draw_copies;
-pub use drawing::draw;
+pub use drawing::{draw, draw_beside};
 pub use fill::fill_piece;
 pub use filler::Filler;
 pub use laws::filled_jobs_go_back;
 pub use obj_frames::NoMemory;
+pub use ring_mesh::vertex_count;

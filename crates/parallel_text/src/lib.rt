@@ -6,9 +6,11 @@
 #![tactic(auto)]
 
 mod lines;
+mod room;
 mod text;
 mod texts;
 
+pub use room::{pays, touched};
 pub use text::frame_text_beside;
 
 #[cfg(test)]

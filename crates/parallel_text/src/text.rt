@@ -19,7 +19,7 @@ const LINE: usize = 26;
 const FEW: usize = 65536;
 
 // How often the lines are halved: not for a few lines, and else for about twice as many parts as there are processors.
-fn depth_for<R: Threads>(rt: &R, lines: usize) -> u8
+pub(crate) fn depth_for<R: Threads>(rt: &R, lines: usize) -> u8
     ensures { result ≤ 4 }
 {
     if lines < FEW {

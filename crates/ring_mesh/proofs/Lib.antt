@@ -3,6 +3,7 @@ pub mod Boxes
 pub mod Wider
 pub mod Blocks
 pub mod UnderWay
+pub mod Behind
 pub mod Added
 pub mod Whole
 pub mod Cells

@@ -8,12 +8,12 @@ use Rattle.clip_regions.specs.Regions.{empty_region, rows}
 use Rattle.terrain_model.specs.Terrain.{Terrain}
 use Rattle.mesh_model.specs.declared.shapes.Vertex.{Vertex}
 use Rattle.mesh_model.specs.Height.{active_at}
-use Rattle.mesh_model.specs.Vertices.{LevelCell, cells_outside, listed_from, vertex_at, mesh_vertices, listed_vertices}
+use Rattle.mesh_model.specs.Vertices.{LevelCell, cells_outside, listed_from, vertex_at, mesh_vertices}
 use Rattle.mesh_laws.specs.declared.ring.Ring.{Ring}
-use Rattle.mesh_laws.specs.Rings.{no_ring, next_ring, ring_row}
+use Rattle.mesh_laws.specs.Rings.{finer_of, next_ring, ring_row}
 use Rattle.mesh_laws.specs.Conditions.{IsBefore}
 use Rattle.mesh_laws.specs.Laws.{RingRows}
-use Rattle.ring_mesh.specs.Listed.{vertices_at, ring_cells, IsListed}
+use Rattle.ring_mesh.specs.Listed.{vertices_at, ring_cells, vertices_left, IsListed}
 use Rattle.ring_mesh.proofs.Lists.{map_of_rows}
 use Rattle.mesh_model.proofs.Ranges.{map_of_map}
 
@@ -30,9 +30,9 @@ unfolding vertices_at ring_cells
 by_rows terrain k actives level ring =
     map_of_rows (λ cell. vertex_at terrain k actives (record { level = level; i = cell.0; j = cell.1 })) (ring_row ring.hole ring.active) ring.active.y0 (rows ring.active)
 
-pub first_listed : (terrain : Terrain) (k : ℕ) (actives : List Region) → IsBefore actives 0 no_ring → IsListed terrain k actives 0 no_ring []
-unfolding mesh_vertices
-first_listed terrain k actives before = record { before = before; left = λ t. map (vertex_at terrain k actives) (listed_vertices actives) }
+pub first_listed : (terrain : Terrain) (k : ℕ) (actives : List Region) (from : ℕ) (finer : Ring) → IsBefore actives from finer → IsListed terrain k actives from from finer []
+first_listed terrain k actives from finer before =
+    record { before = before; left = ap (λ (r : Region). map (vertex_at terrain k actives) (listed_from from r (drop from actives))) before.region }
 
 -- the vertices of a ring are those of the cells outside its hole
 ring_listed : (terrain : Terrain) (k : ℕ) (actives : List Region) (level : ℕ) (finer : Ring) (active : Region) → RingRows →
@@ -58,11 +58,11 @@ split terrain k actives level finer low law =
     ∙ map-append (vertex_at terrain k actives) own (listed_from (level + 1) active (drop (level + 1) actives))
     ∙ ap (λ xs. xs ++ map (vertex_at terrain k actives) (listed_from (level + 1) active (drop (level + 1) actives))) (sym (ring_listed terrain k actives level finer active law))
 
-pub next_listed : (terrain : Terrain) (k : ℕ) (actives : List Region) (level : ℕ) (finer : Ring) (now next : List Vertex) → level < length actives → RingRows →
-    IsListed terrain k actives level finer now → next ≡ now ++ vertices_at terrain k actives level (ring_cells (next_ring finer (active_at actives level))) →
-    IsBefore actives (level + 1) (next_ring finer (active_at actives level)) → IsListed terrain k actives (level + 1) (next_ring finer (active_at actives level)) next
+pub next_listed : (terrain : Terrain) (k : ℕ) (actives : List Region) (from level : ℕ) (finer : Ring) (now next : List Vertex) → level < length actives → RingRows →
+    IsListed terrain k actives from level finer now → next ≡ now ++ vertices_at terrain k actives level (ring_cells (next_ring finer (active_at actives level))) →
+    IsBefore actives (level + 1) (next_ring finer (active_at actives level)) → IsListed terrain k actives from (level + 1) (next_ring finer (active_at actives level)) next
 unfolding next_ring
-next_listed terrain k actives level finer now next low law listed added before =
+next_listed terrain k actives from level finer now next low law listed added before =
     let own = vertices_at terrain k actives level (ring_cells (next_ring finer (active_at actives level))) in
     let rest = map (vertex_at terrain k actives) (listed_from (level + 1) (active_at actives level) (drop (level + 1) actives)) in
     record {
@@ -70,7 +70,15 @@ next_listed terrain k actives level finer now next low law listed added before =
       left = ap (λ xs. xs ++ rest) added ∙ append_assoc now own rest ∙ ap (λ xs. now ++ xs) (sym (split terrain k actives level finer low law)) ∙ listed.left;
     }
 
-pub all_listed : (terrain : Terrain) (k : ℕ) (actives : List Region) (level : ℕ) (finer : Ring) (now : List Vertex) → length actives ≤ level →
-    IsListed terrain k actives level finer now → now ≡ mesh_vertices terrain k actives
-all_listed terrain k actives level finer now high listed =
-    sym (append-nil now) ∙ ap (λ rs. now ++ map (vertex_at terrain k actives) (listed_from level finer.active rs)) (sym (drop_all level actives high)) ∙ listed.left
+-- those of the levels before this one are listed
+pub listed_before : (terrain : Terrain) (k : ℕ) (actives : List Region) (from level : ℕ) (finer : Ring) (now : List Vertex) →
+    IsListed terrain k actives from level finer now → now ++ vertices_left terrain k actives level ≡ vertices_left terrain k actives from
+listed_before terrain k actives from level finer now listed =
+    ap (λ (r : Region). now ++ map (vertex_at terrain k actives) (listed_from level r (drop level actives))) (sym listed.before.region) ∙ listed.left
+
+-- nothing is left after the coarsest level
+pub all_listed : (terrain : Terrain) (k : ℕ) (actives : List Region) (n : ℕ) (now : List Vertex) → length actives ≤ n →
+    now ++ vertices_left terrain k actives n ≡ vertices_left terrain k actives 0 → now ≡ mesh_vertices terrain k actives
+unfolding mesh_vertices
+all_listed terrain k actives n now high left =
+    sym (append-nil now) ∙ ap (λ rs. now ++ map (vertex_at terrain k actives) (listed_from n (finer_of actives n) rs)) (sym (drop_all n actives high)) ∙ left

@@ -1,5 +1,5 @@
 -- The lists of the rings are the mesh without its stitches.
-use Rattle.std.proofs.Common.{◌≡◌, ℕ, ◌<◌, ◌≤◌, ◌^◌, max, List, length, ap, sym, subst, ◌∙◌, arith}
+use Rattle.std.proofs.Common.{◌≡◌, ℕ, ◌<◌, ◌≤◌, ◌^◌, max, List, ◌++◌, length, ap, sym, subst, ◌∙◌, arith}
 use Rattle.clip_regions.specs.declared.region.Region.{Region}
 use Rattle.terrain_model.specs.Terrain.{Terrain}
 use Rattle.plan_model.specs.Window.{margin, blend_width}
@@ -13,7 +13,10 @@ use Rattle.mesh_model.specs.Laws.{PartsCover, PartsAreBounded}
 use Rattle.active_region.specs.Active.{AreActive}
 use Rattle.mesh_laws.specs.Rings.{no_ring, ring_parts_from}
 use Rattle.mesh_laws.specs.Laws.{RingParts, UnstitchedNames, FewVertices, FewRingTriangles}
-use Rattle.ring_mesh.specs.Added.{triangles_of}
+use Rattle.ring_mesh.specs.Listed.{vertices_left}
+use Rattle.ring_mesh.specs.Added.{AreFaces, triangles_of}
+use Rattle.ring_mesh.proofs.RingRows.{all_listed}
+use Rattle.ring_mesh.proofs.UnderWay.{done_triangles, done_parts}
 
 some_margin : (k : ℕ) → 1 ≤ margin k
 unfolding margin
@@ -46,6 +49,13 @@ whole terrain k actives vertices vs triangles parts active law ev es et ep =
     let t = et ∙ ap (λ (xs : List Vertex). (mesh_of_parts xs ps).triangles) e in
     let p = ep ∙ ap (λ (xs : List Vertex). (mesh_of_parts xs ps).parts) e in
     (λ x. record { vertices = ev x; triangles = t x; parts = p x }) ∙ sym (by_rings terrain k actives active law)
+
+-- the vertices and the faces of all levels
+pub all_levels : (terrain : Terrain) (k : ℕ) (actives : List Region) (n : ℕ) (vertices vs : List Vertex) (triangles : List (List ℕ)) (parts : List Part) → length actives ≤ n → AreActive actives → RingParts →
+    vertices ++ vertices_left terrain k actives n ≡ vertices_left terrain k actives 0 → vs ≡ vertices → AreFaces vs actives 0 n triangles parts →
+    record { vertices = vertices; triangles = triangles; parts = parts } ≡ unstitched terrain k actives
+all_levels terrain k actives n vertices vs triangles parts high active law ev es faces =
+    whole terrain k actives vertices vs triangles parts active law (all_listed terrain k actives n vertices high ev) es (done_triangles vs actives n triangles parts high faces) (done_parts vs actives n triangles parts high faces)
 
 -- which are the lists of a mesh
 pub is_mesh : (terrain : Terrain) (k : ℕ) (actives : List Region) (lists : MeshLists) → lists ≡ unstitched terrain k actives → AreActive actives → RingParts →

@@ -1,5 +1,5 @@
 -- What it is to add parts to the lists of a mesh.
-use Rattle.std.specs.Prelude.{◌≡◌, ℕ, ◌^◌, ◌≤ℤ◌, List, [], ◌∷◌, ◌++◌, length, drop, flat_map}
+use Rattle.std.specs.Prelude.{◌≡◌, ℕ, zero, suc, ◌+◌, ◌^◌, ◌≤ℤ◌, List, [], ◌∷◌, ◌++◌, length, drop, flat_map}
 use Rattle.clip_regions.specs.declared.region.Region.{Region}
 use Rattle.clip_regions.specs.Regions.{IsWithin}
 use Rattle.mesh_model.specs.declared.shapes.PartKind.{PartKind}
@@ -7,9 +7,10 @@ use Rattle.mesh_model.specs.declared.shapes.PartKind.TheVariants.{North, West, E
 use Rattle.mesh_model.specs.declared.shapes.Vertex.{Vertex}
 use Rattle.mesh_model.specs.declared.shapes.Part.{Part}
 use Rattle.mesh_model.specs.Parts.{PartTriangles, squares_in}
-use Rattle.mesh_model.specs.Mesh.{parts_from, mesh_of_parts}
+use Rattle.mesh_model.specs.Height.{active_at}
+use Rattle.mesh_model.specs.Mesh.{parts_from}
 use Rattle.mesh_laws.specs.declared.ring.Ring.{Ring}
-use Rattle.mesh_laws.specs.Rings.{no_ring, ring_part, ring_parts_from}
+use Rattle.mesh_laws.specs.Rings.{no_ring, next_ring, ring_part, ring_parts_from}
 use Rattle.mesh_laws.specs.Conditions.{IsBefore}
 
 -- the triangles of these parts
@@ -58,11 +59,31 @@ parts_around level finer ring =
     ∷ block_part finer ring level South (south_block ring.active ring.hole)
     ∷ []
 
--- the rings of the levels below this one are made, and those from it on are left
-pub record IsUnderWay (vertices : List Vertex) (actives : List Region) (level : ℕ) (finer : Ring)
+-- the ring that stands before this level of some active regions
+abbrev pub ring_before : List Region → ℕ → Ring
+ring_before actives zero = no_ring
+ring_before actives (suc level) = next_ring (ring_before actives level) (active_at actives level)
+
+-- the parts of the levels from this one on
+abbrev pub parts_left : List Region → ℕ → List PartTriangles
+parts_left actives level = ring_parts_from level (ring_before actives level) (drop level actives)
+
+-- the lists are those of the levels from one to the last below another: with the parts of the levels from that one on
+-- behind them, they are those of the levels from the first on
+abbrev pub AreFaces : List Vertex → List Region → ℕ → ℕ → List (List ℕ) → List Part → Type 0
+AreFaces vertices actives from to triangles parts =
+    Adds vertices (parts_left actives to) triangles parts
+    (triangles_of (parts_left actives from)) (parts_from vertices 0 (parts_left actives from))
+
+-- a part whose first triangle has a place so many greater
+unfoldable pub moved_on : ℕ → Part → Part
+moved_on more part = record part { first = part.first + more }
+
+-- the rings of the levels from one to the last below another are made, and those from that one on are left
+pub record IsUnderWay (vertices : List Vertex) (actives : List Region) (from level : ℕ) (finer : Ring)
     (triangles : List (List ℕ)) (parts : List Part) : Type 0 where
   pub before : IsBefore actives level finer
+  pub place : finer ≡ ring_before actives level
   pub left :
       Adds vertices (ring_parts_from level finer (drop level actives)) triangles parts
-      (mesh_of_parts vertices (ring_parts_from 0 no_ring actives)).triangles
-      (mesh_of_parts vertices (ring_parts_from 0 no_ring actives)).parts
+      (triangles_of (parts_left actives from)) (parts_from vertices 0 (parts_left actives from))

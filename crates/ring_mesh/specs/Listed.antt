@@ -6,10 +6,10 @@ use Rattle.plan_model.specs.Limits.{IsSize}
 use Rattle.terrain_model.specs.Terrain.{Terrain, level_height}
 use Rattle.mesh_model.specs.declared.shapes.Vertex.{Vertex}
 use Rattle.mesh_model.specs.Height.{active_at, lower_end, upper_end, blended_height}
-use Rattle.mesh_model.specs.Vertices.{vertex_at, listed_from, mesh_vertices}
+use Rattle.mesh_model.specs.Vertices.{vertex_at, listed_from}
 use Rattle.active_region.specs.Active.{AreActive}
 use Rattle.mesh_laws.specs.declared.ring.Ring.{Ring}
-use Rattle.mesh_laws.specs.Rings.{ring_row}
+use Rattle.mesh_laws.specs.Rings.{ring_row, finer_of}
 use Rattle.mesh_laws.specs.Conditions.{IsBefore}
 
 -- the level is one of a frame's active regions, and heights for these are at hand, which name the same regions
@@ -43,10 +43,15 @@ pub record HasRun (r : Region) (i j : ℤ) (n : ℕ) : Type 0 where
 unfoldable pub ring_cells : Ring → List (ℤ × ℤ)
 ring_cells ring = flat_map (ring_row ring.hole ring.active) (numbers_from ring.active.y0 (rows ring.active))
 
--- the vertices of the levels below this one are listed, and those from it on are left
-pub record IsListed (terrain : Terrain) (k : ℕ) (actives : List Region) (level : ℕ) (finer : Ring)
+-- the vertices of the levels from this one on
+abbrev pub vertices_left : Terrain → ℕ → List Region → ℕ → List Vertex
+vertices_left terrain k actives level =
+    map (vertex_at terrain k actives) (listed_from level (finer_of actives level) (drop level actives))
+
+-- the vertices of the levels from one to the last below another are listed, and those from that one on are left
+pub record IsListed (terrain : Terrain) (k : ℕ) (actives : List Region) (from level : ℕ) (finer : Ring)
     (vertices : List Vertex) : Type 0 where
   pub before : IsBefore actives level finer
   pub left :
       vertices ++ map (vertex_at terrain k actives) (listed_from level finer.active (drop level actives))
-      ≡ mesh_vertices terrain k actives
+      ≡ vertices_left terrain k actives from

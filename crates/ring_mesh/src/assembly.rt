@@ -3,15 +3,27 @@
 ghost use Rattle.std.specs.Prelude.{◌≡◌, IfOk};
 ghost use Rattle.plan_model.specs.Limits.{IsSize};
 ghost use Rattle.mesh_model.specs.Rings.{unstitched};
+ghost use Rattle.mesh_model.specs.Conditions.{IsMesh};
 
 use crate::faces::{Faces, ring_faces};
 use crate::heights::Heights;
-use crate::vertices::{ring_vertices, vertex_count};
+use crate::vertices::{ring_vertices, vertices_before};
 use active_region::Actives;
 use mesh_laws::{meshes_are_small, ring_parts_are_square_parts};
 use mesh_model::parts_of_mesh;
-use obj_frames::{Mesh, NoMemory};
+use obj_frames::{Mesh, NoMemory, Vertex};
 use std::alloc::Global;
+
+// The mesh of these vertices and faces.
+pub(crate) fn assembled(vertices: Vec<Vertex>, faces: Faces) -> Mesh
+    requires { IsMesh
+        (record { vertices = vertices.items; triangles = faces.triangles.items; parts = faces.parts.items }) }
+    ensures { result
+        ≡ record { vertices = vertices.items; triangles = faces.triangles.items; parts = faces.parts.items } }
+{
+    let Faces { triangles, parts } = faces;
+    Mesh::new(vertices, triangles, parts)
+}
 
 /// The mesh of a frame's active regions without its stitches: the vertices of all levels, each position once
 /// at the finest level that has it, and the squares of each level outside the next finer one.
@@ -31,8 +43,9 @@ pub fn rings<G: Heights>(
     ring_parts_are_square_parts();
     meshes_are_small();
     parts_of_mesh();
-    let room = vertex_count(actives);
-    let vertices = ring_vertices(alloc, room, heights, k, actives)?;
-    let Faces { triangles, parts } = ring_faces(alloc, 2 * room, vertices.as_slice(), actives)?;
-    Ok(Mesh::new(vertices, triangles, parts))
+    let levels = actives.levels();
+    let room = vertices_before(actives, levels);
+    let vertices = ring_vertices(alloc, room, heights, k, actives, 0, levels)?;
+    let faces = ring_faces(alloc, 2 * room, vertices.as_slice(), actives, 0, levels)?;
+    Ok(assembled(vertices, faces))
 }

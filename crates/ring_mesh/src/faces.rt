@@ -4,15 +4,17 @@ ghost use Rattle.std.specs.Prelude.{◌≡◌, ◌+◌, ◌^◌, ◌<◌, ◌≤
 ghost use Rattle.clip_regions.specs.Regions.{is_empty, IsWithin};
 ghost use Rattle.mesh_model.specs.declared.shapes.PartKind.TheVariants.{Whole, North, West, East, South};
 ghost use Rattle.mesh_model.specs.Parts.{squares_in};
-ghost use Rattle.mesh_model.specs.Mesh.{part_at, mesh_of_parts};
-ghost use Rattle.mesh_laws.specs.Rings.{ring_triangles, ring_part, ring_parts, ring_parts_from, no_ring};
+ghost use Rattle.mesh_model.specs.Mesh.{part_at};
+ghost use Rattle.mesh_laws.specs.Rings.{ring_triangles, ring_part, ring_parts};
 ghost use Rattle.mesh_laws.specs.Conditions.{IsCut, IsSmall, AreLinked};
 ghost use Rattle.ring_mesh.specs.Squares.{HasSquares};
+ghost use Rattle.ring_mesh.specs.Added.{parts_left, AreFaces};
 ghost use Rattle.ring_mesh.specs.Added.{Adds, triangles_of, HasBlock, north_block, west_block, east_block, south_block, block_part, parts_around};
 
 use crate::bounds::bounds_of;
-use crate::places::{next_ring, no_ring};
+use crate::places::next_ring;
 use crate::squares::add_squares;
+use crate::vertices::ring_before;
 use active_region::Actives;
 use clip_regions::Region;
 use mesh_laws::{Ring, rings_are_linked};
@@ -244,27 +246,30 @@ fn add_ring(
     add_around(faces, vertices, finer, ring, level)
 }
 
-// The triangles and the parts of all rings of a frame's active regions, between vertices of which the
-// finest level's come first. The list of triangles has this room.
+// The triangles and the parts of the levels of a frame's active regions from one to the last before another, between
+// vertices of which the finest level's come first. The parts count their triangles from the first of these levels on.
+// The list of triangles has this room.
 pub(crate) fn ring_faces(
     alloc: Global,
     room: usize,
     vertices: &[Vertex],
     actives: &Actives,
+    from: u8,
+    to: u8,
 ) -> Result<Faces, AllocError>
-    requires few { length (triangles_of (ring_parts_from 0 no_ring actives.now)) < 2 ^ 31 }
-    ensures triangles { IfOk result (λ faces. faces.triangles.items ≡
-        (mesh_of_parts vertices.now (ring_parts_from 0 no_ring actives.now)).triangles) }
-    ensures parts { IfOk result (λ faces. faces.parts.items ≡
-        (mesh_of_parts vertices.now (ring_parts_from 0 no_ring actives.now)).parts) }
+    requires few { length (triangles_of (parts_left actives.now 0)) < 2 ^ 31 }
+    requires order { from ≤ to }
+    requires levels { to ≤ length actives.now }
+    ensures faces { IfOk result (λ faces.
+        AreFaces vertices.now actives.now from to faces.triangles.items faces.parts.items) }
 {
     rings_are_linked();
     let mut faces = Faces {
         triangles: Vec::with_capacity(alloc, room)?,
         parts: Vec::new(alloc),
     };
-    let mut finer = no_ring();
-    for level in 0..actives.levels() {
+    let mut finer = ring_before(actives, from);
+    for level in from..to {
         let ring = next_ring(&finer, actives.at(level));
         add_ring(&mut faces, vertices, &finer, &ring, level)?;
         finer = ring;

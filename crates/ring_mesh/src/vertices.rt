@@ -5,12 +5,13 @@ ghost use Rattle.std.specs.Int.{int_gap};
 ghost use Rattle.clip_regions.specs.Regions.{columns, rows};
 ghost use Rattle.plan_model.specs.Limits.{IsSize};
 ghost use Rattle.mesh_model.specs.Height.{active_at};
-ghost use Rattle.mesh_model.specs.Vertices.{vertex_at, mesh_vertices};
+ghost use Rattle.mesh_model.specs.Vertices.{vertex_at};
 ghost use Rattle.active_region.specs.Active.{AreActive};
 ghost use Rattle.mesh_laws.specs.Rings;
 ghost use Rattle.mesh_laws.specs.Rings.{ring_row};
-ghost use Rattle.mesh_laws.specs.Conditions.{IsCell, IsNear, IsSmall, IsRing};
-ghost use Rattle.ring_mesh.specs.Listed.{vertices_at, ring_cells, HasHeights, HasRun};
+ghost use Rattle.mesh_laws.specs.Conditions.{IsCell, IsNear, IsSmall, IsRing, IsBefore};
+ghost use Rattle.ring_mesh.specs.Listed.{vertices_at, ring_cells, vertices_left, HasHeights, HasRun};
+ghost use Rattle.ring_mesh.specs.Added.{ring_before};
 
 use crate::heights::{Heights, vertex_height};
 use crate::places::{next_ring, no_ring, ring_size};
@@ -213,37 +214,64 @@ fn add_ring<G: Heights>(
     Ok(())
 }
 
-// How many vertices the rings of a frame's active regions list. There are fewer than twice as many triangles,
-// those of the stitches included.
-pub(crate) fn vertex_count(actives: &Actives) -> usize
-    ensures few { result < 2 ^ 31 }
+// The ring that stands before this level of a frame's active regions.
+pub(crate) fn ring_before(actives: &Actives, level: u8) -> Ring
+    requires { level ≤ length actives.now }
+    ensures ring { result ≡ ring_before actives.now level }
+    ensures before { IsBefore actives.now level result }
     ensures active { AreActive actives.now }
 {
     rings_are_linked();
+    let _levels = actives.levels();
     let mut finer = no_ring();
-    for level in 0..actives.levels() {
-        finer = next_ring(&finer, actives.at(level));
+    for n in 0..level {
+        finer = next_ring(&finer, actives.at(n));
     }
+    finer
+}
+
+// How many vertices the levels of a frame's active regions list that are finer than this one. There are fewer than
+// twice as many triangles, those of the stitches included.
+pub(crate) fn vertices_before(actives: &Actives, level: u8) -> usize
+    requires { level ≤ length actives.now }
+    ensures few { result < 2 ^ 31 }
+    ensures active { AreActive actives.now }
+{
+    let finer = ring_before(actives, level);
     finer.first as usize + ring_size(&finer) as usize
 }
 
-// The vertices of all rings of a frame's active regions, the finest level first, in a list with this room.
+/// How many vertices the mesh of a frame's active regions has.
+pub fn vertex_count(actives: &Actives) -> usize
+    ensures few { result < 2 ^ 31 }
+{
+    vertices_before(actives, actives.levels())
+}
+
+// The vertices of the levels of a frame's active regions from one to the last before another, the finest first, in a
+// list with this room.
 pub(crate) fn ring_vertices<G: Heights>(
     alloc: Global,
     room: usize,
     heights: &G,
     k: u8,
     actives: &Actives,
+    from: u8,
+    to: u8,
 ) -> Result<Vec<Vertex>, AllocError>
     requires k { IsSize k }
     requires regions { G.regions heights.now ≡ actives.now }
-    ensures value { IfOk result (λ vertices. vertices.items ≡ mesh_vertices (G.terrain heights.now) k actives.now) }
+    requires order { from ≤ to }
+    requires levels { to ≤ length actives.now }
+    ensures value { IfOk result (λ vertices.
+        vertices.items ++ vertices_left (G.terrain heights.now) k actives.now to
+        ≡ vertices_left (G.terrain heights.now) k actives.now from) }
 {
     rings_are_linked();
     rings_have_rows();
     let mut vertices = Vec::with_capacity(alloc, room)?;
-    let mut finer = no_ring();
-    for level in 0..actives.levels() {
+    let mut finer = ring_before(actives, from);
+    for level in from..to {
         let ring = next_ring(&finer, actives.at(level));
         add_ring(&mut vertices, heights, k, actives, level, &ring)?;
         finer = ring;
