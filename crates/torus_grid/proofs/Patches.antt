@@ -34,11 +34,6 @@ pub among_south : (nw ne sw se : List ℤ) (x y : ℕ) → 8 ≤ y → among_fou
 unfolding among_four
 among_south nw ne sw se x y h = ap (λ (b : Bool). cond b (beside nw ne x y) (beside sw se x (y - 8))) (not_less y 8 h)
 
--- two rows of eight, one after the other, are a row of both tiles
-pub row_beside : (west east row : List ℤ) (x y : ℕ) → ((n : ℕ) → n < 8 → get_or row n (pos 0) ≡ get_or west (8 * y + n) (pos 0)) → ((n : ℕ) → n < 8 → get_or row (8 + n) (pos 0) ≡ get_or east (8 * y + n) (pos 0)) → x < 16 → get_or row x (pos 0) ≡ beside west east x y
-row_beside west east row x y first second inside =
-    by_order 8 x (λ (h : 8 ≤ x). let on : x ≡ 8 + (x - 8) = omega arith in ap (λ (n : ℕ). get_or row n (pos 0)) on ∙ second (x - 8) (omega arith) ∙ sym (beside_east west east x y h)) (λ (h : x < 8). first x h ∙ sym (beside_west west east x y h))
-
 -- ---- seven places of an axis
 -- place z + a lies in the block of place z', as its p-th
 record Stands (z z' : ℤ) (a p : ℕ) : Type 0 where

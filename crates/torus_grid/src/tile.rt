@@ -86,35 +86,25 @@ fn write_cells(tile: &mut [i16], cells: Region, heights: &[i16])
     }
 }
 
-// A row of eight heights of a tile, and then that of the next tile to the east.
-fn two_rows(west: &[i16], east: &[i16], y: usize) -> [i16; 16]
+// The height in column x and row y of a tile and the next tile to the east.
+#[inline(always)]
+#[tactic(auto, unfolding(crate::specs::Patches::beside))]
+fn height_of_two(west: &[i16], east: &[i16], x: usize, y: usize) -> i16
     requires west { length west.now ≡ 64 }
     requires east { length east.now ≡ 64 }
+    requires column { x < 16 }
     requires row { y < 8 }
-    ensures many { length result ≡ 16 }
-    ensures west { (n : ℕ) → n < 8 →
-        slice_index_or result n (pos 0) ≡ slice_index_or west.now (8 * y + n) (pos 0) }
-    ensures east { (n : ℕ) → n < 8 →
-        slice_index_or result (8 + n) (pos 0) ≡ slice_index_or east.now (8 * y + n) (pos 0) }
+    ensures { result ≡ beside west.now east.now x y }
 {
-    let mut row = [0i16; 16];
-    write_row(&mut row, 0, west, 8 * y, 8);
-    write_row(&mut row, 8, east, 8 * y, 8);
-    row
-}
-
-// Seven of sixteen heights, from one of the first eight on.
-fn seven_from(row: &[i16], x: usize) -> [i16; 7]
-    requires many { length row.now ≡ 16 }
-    requires column { x < 8 }
-    ensures { (a : ℕ) → a < 7 → slice_index_or result a (pos 0) ≡ slice_index_or row.now (x + a) (pos 0) }
-{
-    let mut seven = [0i16; 7];
-    write_row(&mut seven, 0, row, x, 7);
-    seven
+    if x < 8 {
+        west[8 * y + x]
+    } else {
+        east[8 * y + (x - 8)]
+    }
 }
 
 // Seven heights of a row of a tile and the next tile to the east, from column x of the first on.
+#[inline(always)]
 fn seven_of_two(west: &[i16], east: &[i16], x: usize, y: usize) -> [i16; 7]
     requires west { length west.now ≡ 64 }
     requires east { length east.now ≡ 64 }
@@ -122,12 +112,20 @@ fn seven_of_two(west: &[i16], east: &[i16], x: usize, y: usize) -> [i16; 7]
     requires row { y < 8 }
     ensures { (a : ℕ) → a < 7 → slice_index_or result a (pos 0) ≡ beside west.now east.now (x + a) y }
 {
-    let row = two_rows(west, east, y);
-    seven_from(&row, x)
+    [
+        height_of_two(west, east, x, y),
+        height_of_two(west, east, x + 1, y),
+        height_of_two(west, east, x + 2, y),
+        height_of_two(west, east, x + 3, y),
+        height_of_two(west, east, x + 4, y),
+        height_of_two(west, east, x + 5, y),
+        height_of_two(west, east, x + 6, y),
+    ]
 }
 
 // Seven heights of a row of two pairs of tiles, the second to the south of the first, from column x and row y of
 // the first tile on.
+#[inline(always)]
 pub(crate) fn seven_of_four(
     nw: &Tile,
     ne: &Tile,

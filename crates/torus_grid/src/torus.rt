@@ -95,7 +95,8 @@ fn tile_of_cell(k: u8, i: i32, j: i32) -> TileId
 
 // Seven by seven heights of two pairs of tiles, the second to the south of the first, row by row from column x and
 // row y of the first tile on.
-fn patch_of_four(nw: &Tile, ne: &Tile, sw: &Tile, se: &Tile, x: usize, y: usize) -> [[i16; 7]; 7]
+#[inline(always)]
+fn rows_of_four(nw: &Tile, ne: &Tile, sw: &Tile, se: &Tile, x: usize, y: usize) -> [[i16; 7]; 7]
     requires column { x < 8 }
     requires row { y < 8 }
     ensures { (a b : ℕ) → a < 7 → b < 7 →
@@ -111,6 +112,24 @@ fn patch_of_four(nw: &Tile, ne: &Tile, sw: &Tile, se: &Tile, x: usize, y: usize)
         seven_of_four(nw, ne, sw, se, x, y + 5),
         seven_of_four(nw, ne, sw, se, x, y + 6),
     ]
+}
+
+// The same. The patch of a block begins in column and row 3 or 7 of a tile: there the compiler knows for each height
+// which tile it is of.
+fn patch_of_four(nw: &Tile, ne: &Tile, sw: &Tile, se: &Tile, x: usize, y: usize) -> [[i16; 7]; 7]
+    requires column { x < 8 }
+    requires row { y < 8 }
+    ensures { (a b : ℕ) → a < 7 → b < 7 →
+        slice_index_or (slice_index_or result b []) a (pos 0)
+        ≡ among_four nw.now ne.now sw.now se.now (x + a) (y + b) }
+{
+    match (x, y) {
+        (3, 3) => rows_of_four(nw, ne, sw, se, 3, 3),
+        (3, 7) => rows_of_four(nw, ne, sw, se, 3, 7),
+        (7, 3) => rows_of_four(nw, ne, sw, se, 7, 3),
+        (7, 7) => rows_of_four(nw, ne, sw, se, 7, 7),
+        _ => rows_of_four(nw, ne, sw, se, x, y),
+    }
 }
 
 impl Torus {
